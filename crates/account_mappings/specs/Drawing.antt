@@ -6,9 +6,9 @@ use Rattle.base.specs.declared.no_memory.NoMemory.{NoMemory}
 use Rattle.subjects.specs.Subject.{Token, in_set, text_of, tokens_of}
 use Rattle.mapping.specs.Pairs.{RowMap, forward}
 use Rattle.mapping.specs.Fault.{templated}
-use Rattle.mapping_template.specs.declared.error.MappingError.{MappingError}
-use Rattle.mapping_template.specs.declared.error.MappingError.TheVariants as fault
-use Rattle.mapping_one_way.specs.Fault.{one_way_fault}
+use Rattle.mapping.specs.declared.templates.error.MappingError.{MappingError}
+use Rattle.mapping.specs.declared.templates.error.MappingError.TheVariants as fault
+use Rattle.mapping.specs.one_way.Fault.{one_way_fault}
 use Rattle.account_mappings.specs.declared.drawing.Mapped.{Mapped}
 use Rattle.account_mappings.specs.declared.drawing.Mapped.TheVariants.{Same, To, Unmapped, TooLong}
 

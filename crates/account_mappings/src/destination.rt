@@ -1,8 +1,8 @@
 use crate::Mapped;
+use crate::weights::Weight;
 use base::{Alike, Copying, NoMemory};
 use bytes::Bytes;
-use mapping_one_way::{MapError, MappingError, OneWay};
-use mapping_weights::Weight;
+use mapping::one_way::{MapError, MappingError, OneWay};
 use std::alloc::Global;
 use std::marker::Model;
 use subjects::{Pattern, SubjectRef};

@@ -1,3 +1,4 @@
 pub mod Blanks
 pub mod Pieces
 pub mod Number
+pub mod decimal

@@ -1,13 +1,14 @@
-//! What every crate of natsd shares: lists that clauses compare, values with several owners or in blocks of their own,
-//! the pieces of a text, the blanks in front of it and the number that its digits write, the error of no memory,
-//! and whether two values are equal.
+//! What every crate of natsd shares: lists that clauses compare, values with several owners, pieces and numbers of texts,
+//! the error of no memory, and equality. It knows nothing of NATS, and no crate stands below it.
 #![tactic(auto)]
 
 mod blanks;
 mod boxed;
+pub mod decimal;
 mod digits;
 mod equality;
 mod items;
+pub mod list_laws;
 mod no_memory;
 mod pieces;
 mod shared;

@@ -1,4 +1,4 @@
-//! What the words of a command line ask for (docs/SCRIPT.md, "Statuses").
+//! What the words of a command line ask for (docs/SCRIPT.md, "Statuses"). It opens no file and does nothing of it.
 #![tactic(auto)]
 
 mod options;

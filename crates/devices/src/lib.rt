@@ -1,5 +1,5 @@
-//! What bytes are read from and written to, whose contracts tell the bytes and the failures. A `Source` and a `Sink` wait
-//! until bytes or room have come; a `NonBlockingSource` and a `NonBlockingSink` answer that none have come yet.
+//! What bytes are read from and written to, whose contracts tell the bytes and the failures. It knows no protocol, no policy
+//! and no socket of its own.
 #![tactic(auto)]
 
 mod device;

@@ -1,15 +1,16 @@
 ghost use Rattle.std.specs.Prelude.{◌≡◌, IfOk};
 
-use crate::event::{Event, Sid};
+use crate::event::Event;
 use crate::sent::Sent;
 use base::{Boxed, Copying, Items, NoMemory, Shared};
-use exports::Row;
-use outbox::Batch;
+use messages::Sid;
 use permissions::{By, Verdict};
+use policy_doc::exports::Row;
 use reply_grants::Note;
 use std::alloc::Global;
 use std::marker::Model;
 use std::slice;
+use stores::outbox::Batch;
 use subjects::{Pattern, Subject};
 
 /// A message on its way to one subscription. All deliveries of a message share it.

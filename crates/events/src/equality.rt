@@ -6,9 +6,9 @@ ghost use Rattle.events.specs.declared.event.Command.TheVariants.{Connect, Sub, 
 
 use crate::{Command, Delivery, Entry, Event, Item, Message, Met, Outcome, Removed, Sent};
 use base::{Alike, Items, Shared, SharedText, are_alike, are_same_bytes};
-use outbox::Batch;
 use permissions::By;
 use policy_ready::Ready;
+use stores::outbox::Batch;
 use subjects::{Pattern, Subject};
 
 impl Alike for Sent {

@@ -2,13 +2,10 @@ ghost use Rattle.std.specs.Prelude.{◌≡◌, IfOk};
 ghost use Rattle.events.specs.declared.event.Command.TheVariants.{Connect, Sub};
 
 use base::{Copying, NoMemory, Shared, SharedText};
-use messages::Message;
+use messages::{Message, Sid};
 use policy_ready::Ready;
 use std::alloc::Global;
 use subjects::{Pattern, Subject};
-
-/// A client's own id of a subscription.
-pub type Sid = SharedText;
 
 /// What the hub is asked, and when.
 #[derive(Debug)]

@@ -1,5 +1,5 @@
-//! What a connection and the tables say to each other: events, what is answered, and messages on their way. It has
-//! no behaviour beyond further owners and texts.
+//! What a connection and the tables say to each other: events, what is answered, and messages on their way. It has no
+//! behaviour beyond further owners and texts, and knows neither side.
 #![tactic(auto)]
 
 mod answer;
@@ -12,8 +12,8 @@ mod sent;
 mod words;
 
 pub use answer::{Addressed, Answer, Delivery, Entry, Item, Met, Outcome, Removed};
-pub use event::{Command, Event, Sid};
-pub use messages::Message;
+pub use event::{Command, Event};
+pub use messages::{Message, Sid};
 pub use port::{InvalidFrame, Port};
 pub use refusal::{HubRefusal, PublishRefusal};
 pub use run::RunEnd;

@@ -3,3 +3,4 @@ pub mod Laws
 pub mod Lines
 pub mod Path
 pub mod Reason
+pub mod places

@@ -10,13 +10,13 @@ use Rattle.account_mappings.specs.declared.drawing.Mapped.TheVariants as mapped
 use Rattle.policy_doc.specs.Accounts.{Name}
 use Rattle.policy_doc.specs.declared.document.NamedAccount.{NamedAccount}
 use Rattle.policy_doc.specs.declared.document.PolicyDoc.{PolicyDoc}
-use Rattle.imports.specs.Across.{views_in}
-use Rattle.imports.specs.Views.{rows_of}
-use Rattle.imports.specs.declared.rows.ImportRow.{ImportRow}
-use Rattle.imports.specs.declared.view.ViewItem.{ViewItem}
-use Rattle.imports.specs.declared.view.ViewItem.TheVariants as item
-use Rattle.imports.specs.declared.view.Way.{Way}
-use Rattle.imports.specs.declared.view.Way.TheVariants as way
+use Rattle.policy_ready.specs.imports.Across.{views_in}
+use Rattle.policy_ready.specs.imports.Views.{rows_of}
+use Rattle.policy_ready.specs.declared.imports.rows.ImportRow.{ImportRow}
+use Rattle.policy_ready.specs.declared.imports.view.ViewItem.{ViewItem}
+use Rattle.policy_ready.specs.declared.imports.view.ViewItem.TheVariants as item
+use Rattle.policy_ready.specs.declared.imports.view.Way.{Way}
+use Rattle.policy_ready.specs.declared.imports.view.Way.TheVariants as way
 use Rattle.explain.specs.declared.path.PathShare.{PathShare}
 use Rattle.explain.specs.declared.path.SentAs.TheVariants as sent
 use Rattle.explain.specs.declared.view.View.{View}

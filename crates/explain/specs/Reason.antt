@@ -7,7 +7,7 @@ use Rattle.subjects.specs.Subject.{Token, text_of}
 use Rattle.subjects.specs.Outside.{outside}
 use Rattle.policy_doc.specs.Accounts.{Name}
 use Rattle.policy_doc.specs.Document.{users_of}
-use Rattle.permission_doc.specs.Entries.{entry_text}
+use Rattle.policy_doc.specs.permission_doc.Entries.{entry_text}
 use Rattle.policy_doc.specs.declared.document.PolicyDoc.{PolicyDoc}
 use Rattle.policy_doc.specs.declared.document.UserDoc.{UserDoc}
 use Rattle.permissions.specs.Lists.{Entry, Lists, Queue, Rules, is_plain}

@@ -1,4 +1,5 @@
-//! Why a policy allows or denies something, for an operator who asks (docs/POLICY.md, "Explaining a verdict").
+//! Why a policy allows or denies something, and where the entry stands that decides, for an operator who asks
+//! (docs/POLICY.md, "Explaining a verdict"). It knows no session, no subscription and no history.
 #![tactic(auto)]
 
 mod asking;
@@ -7,6 +8,7 @@ mod fault;
 mod laws;
 mod lines;
 mod path;
+pub mod places;
 mod reason;
 mod view;
 

@@ -2,7 +2,7 @@
 ghost use Rattle.std.specs.Prelude.{◌≡◌, IfOk, Some, map};
 ghost use Rattle.std.specs.Option.{option_copied};
 ghost use Rattle.account_mappings.specs.Drawing.{source_of};
-ghost use Rattle.imports.specs.Views.{rows_of};
+ghost use Rattle.policy_ready.specs.imports.Views.{rows_of};
 ghost use Rattle.explain.specs.Fault.{Answers};
 ghost use Rattle.explain.specs.Path.{account_named, left_by, path_of, share_of, share_to, shares_by, unsent};
 ghost use Rattle.explain.specs.declared.fault.ExplainFault.TheVariants as fault;
@@ -12,8 +12,8 @@ use crate::{ExplainFault, View};
 use account_mappings::{AccountMap, Destination, Mapped, source_of};
 use base::{Items, NoMemory};
 use bytes::Bytes;
-use imports::Rows;
 use policy_doc::{NamedAccount, Policy};
+use policy_ready::imports::Rows;
 use std::alloc::Global;
 use subjects::Subject;
 

@@ -3,14 +3,14 @@ ghost use Rattle.std.specs.Prelude.{◌≡◌, ◌++◌, [], IfOk, None, OnOk};
 ghost use Rattle.std.specs.Option.{option_copied, option_map};
 ghost use Rattle.std.specs.List.{slice_get};
 ghost use Rattle.explain.specs.Reason.{allow_entry, delivery_reason, is_looked_at, lacks_pattern, lacks_subject, named_entry, publish_reason, refusing_list, subscribe_reason, uncovered_by, uncovered_with};
-ghost use Rattle.permission_doc.specs.Entries.{entry_text};
+ghost use Rattle.policy_doc.specs.permission_doc.Entries.{entry_text};
 ghost use Rattle.subjects.specs.Subject.{text_of};
 ghost use Rattle.subjects.specs.Outside.{outside};
 
 use crate::{Explanation, Uncovered};
 use base::{Items, NoMemory};
-use permission_doc::{Direction, PermEntry};
 use permissions::{By, Compiled, Verdict};
+use policy_doc::permission_doc::{Direction, PermEntry};
 use std::alloc::Global;
 use subjects::{Pattern, Subject};
 

@@ -4,7 +4,7 @@ ghost use Rattle.explain.specs.Path.{kind_of, seen, view_of};
 
 use base::{Items, NoMemory};
 use bytes::Bytes;
-use imports::{Rows, ViewItem, Way};
+use policy_ready::imports::{Rows, ViewItem, Way};
 use std::alloc::Global;
 use subjects::Subject;
 

@@ -26,8 +26,8 @@ use Rattle.events.specs.declared.answer.Outcome.{Outcome}
 use Rattle.events.specs.declared.answer.Outcome.TheVariants.{Connected, AuthViolation, Subscribed, SameSid, SubLimit, Denied, Published, Taken}
 use Rattle.events.specs.declared.refusal.HubRefusal.{HubRefusal}
 use Rattle.events.specs.declared.refusal.HubRefusal.TheVariants.{SessionLimit}
-use Rattle.world_deliveries.specs.Sessions.{session_of}
-use Rattle.world_deliveries.specs.declared.session.Session.{Session}
+use Rattle.world_sessions.specs.deliveries.Sessions.{session_of}
+use Rattle.world_sessions.specs.declared.deliveries.session.Session.{Session}
 use Rattle.world_subscriptions.specs.Subscriptions.{is_under, stands, has_all, subscription_of}
 use Rattle.world_subscriptions.specs.Limit.{is_entry_for, limit_of, limited}
 use Rattle.world_rows.specs.declared.subscription.Subscription.{Subscription}

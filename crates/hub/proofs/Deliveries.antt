@@ -8,7 +8,7 @@ use Rattle.std.proofs.Math.Bool.{or-true, or-false}
 use Rattle.std.proofs.lemmas.List.Folds.{map_fixed}
 use Rattle.std.proofs.lemmas.Bool.{eq-eqb, eqb-true, ne_eqb, ltb-true, ltb-false, lt-ltb, le-ltb, cases_eq}
 use Rattle.subjects.specs.Subject.{Token}
-use Rattle.permission_doc.specs.declared.document.Terms.{Terms}
+use Rattle.policy_doc.specs.declared.permission_doc.document.Terms.{Terms}
 use Rattle.permissions.specs.declared.verdict.By.{By}
 use Rattle.permissions.specs.declared.verdict.By.TheVariants.{All as AllowsAll, Index, Grant}
 use Rattle.reply_grants.specs.Replies.{Table, noted, responded_in, ended_in}
@@ -17,13 +17,13 @@ use Rattle.events.specs.declared.answer.Addressed.{Addressed}
 use Rattle.events.specs.declared.answer.Delivery.{Delivery}
 use Rattle.events.specs.declared.answer.Item.{Item}
 use Rattle.events.specs.declared.answer.Item.TheVariants.{Entered, Full}
-use Rattle.world_deliveries.specs.Sessions.{session_of, with_session}
-use Rattle.world_deliveries.specs.Delivered.{noting, offered, after_offer, item_of, delivered, has_room}
-use Rattle.world_deliveries.specs.Replying.{terms_of, note_of, note_for, noted_for, responding, ending}
-use Rattle.world_deliveries.specs.declared.session.Session.{Session}
+use Rattle.world_sessions.specs.deliveries.Sessions.{session_of, with_session}
+use Rattle.world_sessions.specs.deliveries.Delivered.{noting, offered, after_offer, item_of, delivered, has_room}
+use Rattle.world_sessions.specs.deliveries.Replying.{terms_of, note_of, note_for, noted_for, responding, ending}
+use Rattle.world_sessions.specs.declared.deliveries.session.Session.{Session}
 use Rattle.world_rows.specs.declared.subscription.Subscription.{Subscription}
 use Rattle.world_subscriptions.specs.Addressing.{addressed_to}
-use Rattle.world_deliveries.proofs.Changes.{only, with_session-map, session_of-changed, session_of-other, offered-conn}
+use Rattle.world_sessions.proofs.deliveries.Changes.{only, with_session-map, session_of-changed, session_of-other, offered-conn}
 use Rattle.world.specs.Granting.{counted_on, ended_on}
 use Rattle.hub.specs.Replies.{noted_at, noted_each}
 use Rattle.hub.specs.Items.{DeliveryItem, tells_of}

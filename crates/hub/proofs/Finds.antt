@@ -4,9 +4,9 @@ use Rattle.std.specs.Prelude.{find, All, AllPairs}
 use Rattle.std.specs.List.{list_any}
 use Rattle.std.proofs.lemmas.List.{get_or-map, length-map}
 use Rattle.std.proofs.lemmas.List.Elements.{All-cons, All-nil}
-pub use Rattle.receiver_views.proofs.Tests.{find-passes}
-pub use Rattle.world_routing.proofs.Remembered.{find-All}
-pub use Rattle.list_laws.proofs.Finds.{find-map, find-filter, find-nothing, AllPairs-head, AllPairs-tail}
+pub use Rattle.world.proofs.Handed.{find-passes}
+pub use Rattle.world.proofs.Handed.{find-All}
+pub use Rattle.base.proofs.list_laws.Finds.{find-map, find-filter, find-nothing, AllPairs-head, AllPairs-tail}
 
 pub find-none : {X : Type 0} (t : X → Bool) (xs : List X) → find t xs ≡ None → All (λ x. t x ≡ false) xs
 find-none t [] e = All-nil (λ x. t x ≡ false)

@@ -10,13 +10,13 @@ use Rattle.std.proofs.lemmas.List.Filters.{length-filter_both}
 use Rattle.std.proofs.lemmas.List.Quantifiers.{all_pairs_push}
 use Rattle.subjects.specs.Subject.{Token}
 use Rattle.subjects.specs.Equal.{same_subject, same_subject-equiv}
-use Rattle.permission_doc.specs.declared.document.Terms.{Terms}
+use Rattle.policy_doc.specs.declared.permission_doc.document.Terms.{Terms}
 use Rattle.reply_grants.specs.Grants.{Grant, is_below, is_within, is_live, is_for, has_live, without, after_note, answered, after_end, after_response}
 use Rattle.reply_grants.specs.Replies.{Table, grants_of, noted, responded_in, ended_in, judged}
 use Rattle.reply_grants.specs.declared.replies.Note.{Note}
 use Rattle.events.specs.declared.answer.Delivery.{Delivery}
 use Rattle.hub.specs.Kept.{is_open, has_response_left, IsAfter, AreApart, AreKept, IsKeptTable}
-use Rattle.world_deliveries.specs.Replying.{note_of}
+use Rattle.world_sessions.specs.deliveries.Replying.{note_of}
 use Rattle.hub.specs.Replies.{is_young, is_live_for, has_grant, noted_at, noted_each}
 use Rattle.hub.proofs.Finds.{AllPairs-head, AllPairs-tail, AllPairs-map}
 

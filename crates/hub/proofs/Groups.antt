@@ -8,11 +8,11 @@ use Rattle.std.proofs.lemmas.List.Kept.{AllPairs-filter}
 use Rattle.std.proofs.lemmas.Nat.{mod_below}
 use Rattle.std.proofs.lemmas.Option.{slice_get-get_or}
 use Rattle.subjects.specs.Subject.{Token, text_of}
-use Rattle.queue_choice.specs.Choices.{chosen}
-use Rattle.queue_choice.proofs.Names.{same-is}
+use Rattle.world_subscriptions.specs.queue_choice.Choices.{chosen}
+use Rattle.world_subscriptions.proofs.queue_choice.Names.{same-is}
 use Rattle.world_rows.specs.declared.subscription.Subscription.{Subscription}
-use Rattle.world_groups.specs.Served.{is_named, is_member, members, is_the, is_served_by, is_served, served}
-use Rattle.world_groups.specs.Chosen.{Rising}
+use Rattle.world_subscriptions.specs.groups.Served.{is_named, is_member, members, is_the, is_served_by, is_served, served}
+use Rattle.world_subscriptions.specs.groups.Chosen.{Rising}
 use Rattle.hub.specs.Guarantee.{is_plain, AreServed}
 use Rattle.hub.proofs.Finds.{AllPairs-head, AllPairs-tail}
 

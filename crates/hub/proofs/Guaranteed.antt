@@ -29,19 +29,19 @@ use Rattle.events.specs.declared.refusal.HubRefusal.{HubRefusal}
 use Rattle.events.specs.declared.refusal.HubRefusal.TheVariants.{HistoryFull, NoSession, SessionTaken, SessionLimit, NoMemory}
 use Rattle.service_exporter.specs.Routes.{Exporter}
 use Rattle.service_routes.specs.Routes.{Name, pruned, spent}
-use Rattle.world_deliveries.specs.Sessions.{session_of, with_session, new_session, drained}
+use Rattle.world_sessions.specs.deliveries.Sessions.{session_of, with_session, new_session, drained}
 use Rattle.reply_grants.specs.Replies.{grants_of}
 use Rattle.events.specs.declared.answer.Addressed.{Addressed}
-use Rattle.world_deliveries.specs.Delivered.{delivered}
-use Rattle.world_deliveries.specs.Replying.{terms_of, is_granted}
-use Rattle.world_deliveries.specs.declared.session.Session.{Session}
+use Rattle.world_sessions.specs.deliveries.Delivered.{delivered}
+use Rattle.world_sessions.specs.deliveries.Replying.{terms_of, is_granted}
+use Rattle.world_sessions.specs.declared.deliveries.session.Session.{Session}
 use Rattle.world_subscriptions.specs.Subscriptions.{is_under, stands, has_all, subscription_of}
 use Rattle.world_subscriptions.specs.Limit.{is_entry_for, unended, limit_of, limited}
 use Rattle.world_rows.specs.declared.subscription.Subscription.{Subscription}
 use Rattle.world.specs.World.{World, advanced}
 use Rattle.world.specs.Granting.{or_granted, verdict_on, counted_on, ended_on}
-use Rattle.imports.specs.declared.view.ViewItem.{ViewItem}
-use Rattle.world_routing.proofs.Publishing.{same_met}
+use Rattle.policy_ready.specs.declared.imports.view.ViewItem.{ViewItem}
+use Rattle.world.proofs.Handed.{same_met}
 use Rattle.world.specs.Transition.{IsReasoned, IsRefusal, connected, subscribed, unsubscribed, mapped_to, published, seen_as, seen_nowhere, taken, closed, in_session, in_new_session, moved, numbered, transition}
 use Rattle.hub.specs.Sound.{IsSound, is_to_receive, user_at, account_of, may_subscribe, HasAllowance}
 use Rattle.hub.specs.InForce.{policy_after, epoch_after}
@@ -59,7 +59,7 @@ use Rattle.hub.proofs.Reloads.{in_force, sound-reload}
 use Rattle.hub.proofs.Sent.{receives-keeps, setting_of, is_setting, is_part, stages-routed, stages-rows}
 use Rattle.hub.proofs.Routes.{EachRouted, routed-pruned, routed-spent}
 use Rattle.hub.proofs.Rows.{each-pruned, each-spent, views-by_rows}
-use Rattle.world_deliveries.proofs.Changes.{only, with_session-map}
+use Rattle.world_sessions.proofs.deliveries.Changes.{only, with_session-map}
 use Rattle.hub.proofs.Deliveries.{sent as addressed, receives_of, outboxes, with_room}
 use Rattle.hub.proofs.Entering.{received-keeps}
 use Rattle.hub.proofs.Views.{Setting, Stage, standing, views_of, first_stage, last_stage, parts_of, told_of, standing-first, seen-is, sessions-are, items-are, items-of, routes-are, parts-views, each-part, each-in}

@@ -11,7 +11,7 @@ use Rattle.events.specs.declared.refusal.HubRefusal.{HubRefusal}
 use Rattle.events.specs.declared.refusal.HubRefusal.TheVariants.{HistoryFull}
 use Rattle.events.specs.declared.refusal.PublishRefusal.{PublishRefusal}
 use Rattle.events.specs.declared.refusal.PublishRefusal.TheVariants.{By, Held}
-use Rattle.world_leniency.specs.Held.{Terms, to_all}
+use Rattle.world_sessions.specs.leniency.Held.{Terms, to_all}
 use Rattle.world.specs.World.{World}
 use Rattle.world.specs.Transition.{transition, entry_of, IsReasoned, IsRefusal}
 use Rattle.world.specs.Holding.{IsAppliedIf}

@@ -19,10 +19,10 @@ use Rattle.permissions.specs.declared.verdict.Verdict.TheVariants.{Allowed, Deni
 use Rattle.policy_ready.specs.Users.{users_of, user_named, is_same_user, user_again}
 use Rattle.policy_ready.specs.declared.ready.User.{User}
 use Rattle.service_routes.specs.Routes.{kept, pruned}
-use Rattle.service_rows.specs.Rows.{renewed as renewed_row}
-use Rattle.world_deliveries.specs.Sessions.{session_of}
+use Rattle.service_routes.specs.service_rows.Rows.{renewed as renewed_row}
+use Rattle.world_sessions.specs.deliveries.Sessions.{session_of}
 use Rattle.world_sessions.specs.Renewal.{user_again_of, stays, goes, with_user, renewed, remaining, connection_of, closed_conns}
-use Rattle.world_deliveries.specs.declared.session.Session.{Session}
+use Rattle.world_sessions.specs.declared.deliveries.session.Session.{Session}
 use Rattle.world_rows.specs.declared.subscription.Subscription.{Subscription}
 use Rattle.world.specs.World.{World}
 use Rattle.world.specs.Reload.{user_after, verdict_for, may_stand, stands_on, removal, removal_after, IsReasonedVerdict, IsReasonedReload}
@@ -33,7 +33,7 @@ use Rattle.hub.proofs.Finds.{find-passes, find-All, find-nothing, AllPairs-head,
 use Rattle.policy_ready.proofs.Names.{name_of, are_named_once, unlike}
 use Rattle.hub.proofs.Naming.{named_again}
 use Rattle.world_sessions.proofs.Remaining.{with_user-conn}
-use Rattle.world_marks.proofs.Staying.{passing, session_of-filter, session_of-remaining}
+use Rattle.world.proofs.Handed.{passing, session_of-filter, session_of-remaining}
 use Rattle.world_sessions.proofs.Ascending.{AreApart, among-ascending, ascending-rises}
 use Rattle.hub.proofs.Grants.{kept_judged}
 use Rattle.hub.proofs.Routes.{routed-kept, routed-pruned}

@@ -11,7 +11,7 @@ use Rattle.std.proofs.lemmas.List.Kept.{AllPairs-filter}
 use Rattle.std.proofs.lemmas.List.Quantifiers.{all_pairs_push}
 use Rattle.indexmap.specs.IndexMap.{insert_entry}
 use Rattle.subjects.specs.Subject.{Token}
-use Rattle.exports.specs.declared.document.Row.{Row}
+use Rattle.policy_doc.specs.declared.exports.document.Row.{Row}
 use Rattle.service_exporter.specs.Limit.{is_full}
 use Rattle.service_exporter.specs.Routes.{Exporter, Numbered, no_routes, lives, living, pruned_of, with_route, ends_by, spent_of, on_row, kept_route, kept_of}
 use Rattle.service_exporter.specs.declared.route.NewRow.{NewRow}

@@ -14,26 +14,26 @@ use Rattle.std.proofs.lemmas.Slice.Eq.{bytes_eq-Decides}
 use Rattle.indexmap.specs.IndexMap.{insert_entry}
 use Rattle.subjects.specs.Subject.{Token}
 use Rattle.subjects.specs.Equal.{same_subject}
-use Rattle.exports.specs.declared.document.Kind.{Kind}
-use Rattle.exports.specs.declared.document.Kind.TheVariants as kind
-use Rattle.exports.specs.declared.document.Row.{Row}
+use Rattle.policy_doc.specs.declared.exports.document.Kind.{Kind}
+use Rattle.policy_doc.specs.declared.exports.document.Kind.TheVariants as kind
+use Rattle.policy_doc.specs.declared.exports.document.Row.{Row}
 use Rattle.policy_doc.specs.Accounts.{IsByName, has_name}
 use Rattle.policy_doc.specs.declared.document.ImportDoc.{ImportDoc}
 use Rattle.policy_doc.specs.declared.document.NamedAccount.{NamedAccount}
 use Rattle.policy_doc.specs.declared.document.PolicyDoc.{PolicyDoc}
 use Rattle.policy_doc.proofs.Names.{found-at}
-use Rattle.imports.specs.Across.{crossing, crossings_in, last_by, views, way_by}
-use Rattle.imports.specs.Views.{first_of_each, is_route, is_same, row_at, rows_from, rows_in, rows_of}
-use Rattle.imports.specs.declared.rows.ImportRow.{ImportRow}
-use Rattle.imports.specs.declared.view.ViewItem.{ViewItem}
-use Rattle.imports.specs.declared.view.ViewItem.TheVariants.{At, TooLong}
-use Rattle.imports.specs.declared.view.Way.TheVariants.{Own, Stream, Service, Response}
-use Rattle.imports.proofs.Crossed.{seen_by}
+use Rattle.policy_ready.specs.imports.Across.{crossing, crossings_in, last_by, views, way_by}
+use Rattle.policy_ready.specs.imports.Views.{first_of_each, is_route, is_same, row_at, rows_from, rows_in, rows_of}
+use Rattle.policy_ready.specs.declared.imports.rows.ImportRow.{ImportRow}
+use Rattle.policy_ready.specs.declared.imports.view.ViewItem.{ViewItem}
+use Rattle.policy_ready.specs.declared.imports.view.ViewItem.TheVariants.{At, TooLong}
+use Rattle.policy_ready.specs.declared.imports.view.Way.TheVariants.{Own, Stream, Service, Response}
+use Rattle.policy_ready.proofs.imports.Crossed.{seen_by}
 use Rattle.service_exporter.specs.Routes.{Exporter, Numbered, no_routes, lives, pruned_of, with_route, ends_by, spent_of, on_row, kept_route, kept_of, route_on}
 use Rattle.service_exporter.specs.declared.route.NewRow.{NewRow}
 use Rattle.service_exporter.specs.declared.route.Route.{Route}
 use Rattle.service_routes.specs.Routes.{Name, same_name, exporter_of, changed, opened, spent, pruned, kept}
-use Rattle.service_rows.specs.Rows.{renewed, renewed_for, renewed_in, import_at, is_same_service, is_service, new_row, same_template}
+use Rattle.service_routes.specs.service_rows.Rows.{renewed, renewed_for, renewed_in, import_at, is_same_service, is_service, new_row, same_template}
 use Rattle.world.specs.Routing.{response_by, responses_on, route_for}
 use Rattle.hub.specs.Routes.{EachRoute, IsOfRow, IsServiceRow}
 use Rattle.hub.proofs.Routes.{given-All}

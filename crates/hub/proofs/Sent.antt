@@ -12,19 +12,19 @@ use Rattle.policy_ready.specs.declared.ready.User.{User}
 use Rattle.events.specs.Messages.{Message}
 use Rattle.events.specs.declared.answer.Delivery.{Delivery}
 use Rattle.events.specs.declared.answer.Item.{Item}
-use Rattle.imports.specs.declared.view.ViewItem.{ViewItem}
-use Rattle.imports.specs.declared.view.ViewItem.TheVariants.{At, TooLong}
-use Rattle.imports.specs.declared.view.Way.TheVariants.{Own, Stream, Service, Response}
-use Rattle.exports.specs.declared.document.Row.{Row}
+use Rattle.policy_ready.specs.declared.imports.view.ViewItem.{ViewItem}
+use Rattle.policy_ready.specs.declared.imports.view.ViewItem.TheVariants.{At, TooLong}
+use Rattle.policy_ready.specs.declared.imports.view.Way.TheVariants.{Own, Stream, Service, Response}
+use Rattle.policy_doc.specs.declared.exports.document.Row.{Row}
 use Rattle.service_exporter.specs.Limit.{is_full}
 use Rattle.service_exporter.specs.Routes.{Exporter}
 use Rattle.service_routes.specs.Routes.{Name, exporter_of, pruned}
-use Rattle.world_deliveries.specs.Sessions.{session_of}
-use Rattle.world_deliveries.specs.declared.session.Session.{Session}
+use Rattle.world_sessions.specs.deliveries.Sessions.{session_of}
+use Rattle.world_sessions.specs.declared.deliveries.session.Session.{Session}
 use Rattle.world_rows.specs.declared.subscription.Subscription.{Subscription}
 use Rattle.world.specs.World.{World, advanced}
 use Rattle.world.specs.Routing.{View, view_of, view_with, is_admitted, may_hear, lets_through, route_for, next_subject}
-use Rattle.world_routing.specs.Routing.{is_nil}
+use Rattle.world.specs.Routing.{is_nil}
 use Rattle.hub.specs.Sound.{IsSound, user_behind, user_at, account_of, is_to_receive}
 use Rattle.hub.specs.Replies.{is_response}
 use Rattle.hub.specs.Routes.{EachRoute, IsOfRow}

@@ -17,9 +17,9 @@ use Rattle.policy_ready.specs.Users.{user_named}
 use Rattle.policy_ready.specs.declared.ready.User.{User}
 use Rattle.service_exporter.specs.Routes.{Exporter}
 use Rattle.service_routes.specs.Routes.{Name, pruned}
-use Rattle.world_deliveries.specs.Sessions.{session_of, new_session}
+use Rattle.world_sessions.specs.deliveries.Sessions.{session_of, new_session}
 use Rattle.world_sessions.specs.Renewal.{HaveOneUser}
-use Rattle.world_deliveries.specs.declared.session.Session.{Session}
+use Rattle.world_sessions.specs.declared.deliveries.session.Session.{Session}
 use Rattle.world_subscriptions.specs.Subscriptions.{subscription_of, stands, of_connection, has_all}
 use Rattle.world_subscriptions.specs.Limit.{is_reached, has_ended, unended}
 use Rattle.world_rows.specs.declared.subscription.Subscription.{Subscription}

@@ -20,32 +20,32 @@ use Rattle.events.specs.declared.answer.Item.{Item}
 use Rattle.events.specs.declared.answer.Item.TheVariants.{Entered, Full, RouteFull, MapTooLong, Unmapped, MappedTooLong}
 use Rattle.events.specs.declared.answer.Outcome.{Outcome}
 use Rattle.events.specs.declared.answer.Outcome.TheVariants.{Published}
-use Rattle.exports.specs.declared.document.Row.{Row}
-use Rattle.imports.specs.Across.{views}
-use Rattle.imports.specs.declared.view.ViewItem.{ViewItem}
-use Rattle.imports.specs.declared.view.ViewItem.TheVariants.{At, TooLong}
-use Rattle.imports.specs.declared.view.Way.{Way}
-use Rattle.imports.specs.declared.view.Way.TheVariants.{Own, Stream, Service, Response}
+use Rattle.policy_doc.specs.declared.exports.document.Row.{Row}
+use Rattle.policy_ready.specs.imports.Across.{views}
+use Rattle.policy_ready.specs.declared.imports.view.ViewItem.{ViewItem}
+use Rattle.policy_ready.specs.declared.imports.view.ViewItem.TheVariants.{At, TooLong}
+use Rattle.policy_ready.specs.declared.imports.view.Way.{Way}
+use Rattle.policy_ready.specs.declared.imports.view.Way.TheVariants.{Own, Stream, Service, Response}
 use Rattle.service_exporter.specs.Limit.{is_full}
 use Rattle.service_exporter.specs.Routes.{Exporter}
 use Rattle.service_routes.specs.Routes.{Name, exporter_of, spent}
-use Rattle.world_deliveries.specs.Sessions.{session_of}
-use Rattle.world_deliveries.specs.Delivered.{delivered, after_offer, item_of, has_room}
-use Rattle.world_deliveries.specs.Replying.{noted_for}
-use Rattle.world_deliveries.specs.declared.session.Session.{Session}
+use Rattle.world_sessions.specs.deliveries.Sessions.{session_of}
+use Rattle.world_sessions.specs.deliveries.Delivered.{delivered, after_offer, item_of, has_room}
+use Rattle.world_sessions.specs.deliveries.Replying.{noted_for}
+use Rattle.world_sessions.specs.declared.deliveries.session.Session.{Session}
 use Rattle.world_subscriptions.specs.Addressing.{addressed_to}
 use Rattle.world_subscriptions.specs.Subscriptions.{has_same_sid}
 use Rattle.world_subscriptions.specs.Limit.{unended, counted}
 use Rattle.world_rows.specs.declared.subscription.Subscription.{Subscription}
-use Rattle.receiver_views.proofs.Tests.{both}
-use Rattle.queue_choice.specs.Choices.{chosen, chosen_number}
-use Rattle.world_groups.specs.Served.{is_member, members, is_the, is_served_by, is_served, served}
-use Rattle.world_groups.proofs.Chosen.{filter-map}
+use Rattle.world.proofs.Handed.{both}
+use Rattle.world_subscriptions.specs.queue_choice.Choices.{chosen, chosen_number}
+use Rattle.world_subscriptions.specs.groups.Served.{is_member, members, is_the, is_served_by, is_served, served}
+use Rattle.world_subscriptions.proofs.groups.Chosen.{filter-map}
 use Rattle.world.specs.World.{World}
 use Rattle.world.specs.Granting.{counted_on, ended_on}
-use Rattle.world_routing.specs.Handing.{is_of_delivery, of_deliveries}
+use Rattle.world.specs.Routing.{is_of_delivery, of_deliveries}
 use Rattle.world.specs.Routing.{View, view_of, view_with, is_admitted, routed, responses_on, route_for, next_subject, in_view, in_views}
-use Rattle.world_routing.specs.Routing.{is_nil, requested, requested_by}
+use Rattle.world.specs.Routing.{is_nil, requested, requested_by}
 use Rattle.world.specs.Transition.{seen_as}
 use Rattle.hub.specs.Sound.{is_to_receive}
 use Rattle.hub.specs.Guarantee.{Opening, ViewPart, Sending, told_by, sendings, item_names, names_of, items_of, received_more, times_entered, with_opening, routes_behind}

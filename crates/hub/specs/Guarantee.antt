@@ -27,25 +27,25 @@ use Rattle.events.specs.declared.answer.Outcome.TheVariants.{Connected, AuthViol
 use Rattle.events.specs.declared.answer.Entry.{Entry}
 use Rattle.events.specs.declared.refusal.HubRefusal.{HubRefusal}
 use Rattle.events.specs.declared.refusal.HubRefusal.TheVariants.{HistoryFull, NoSession, SessionTaken, SessionLimit, NoMemory}
-use Rattle.world_deliveries.specs.Sessions.{session_of, new_session, drained}
-use Rattle.world_deliveries.specs.declared.session.Session.{Session}
+use Rattle.world_sessions.specs.deliveries.Sessions.{session_of, new_session, drained}
+use Rattle.world_sessions.specs.declared.deliveries.session.Session.{Session}
 use Rattle.world_subscriptions.specs.Subscriptions.{stands, has_all, subscription_of}
 use Rattle.world_subscriptions.specs.Limit.{limited, is_entry_for}
 use Rattle.world_rows.specs.declared.subscription.Subscription.{Subscription}
-use Rattle.queue_choice.specs.Choices.{chosen}
+use Rattle.world_subscriptions.specs.queue_choice.Choices.{chosen}
 use Rattle.world.specs.World.{World}
-use Rattle.imports.specs.Across.{views}
-use Rattle.imports.specs.declared.view.ViewItem.{ViewItem}
-use Rattle.imports.specs.declared.view.ViewItem.TheVariants.{At, TooLong as NotCrossed}
-use Rattle.imports.specs.declared.view.Way.{Way}
-use Rattle.imports.specs.declared.view.Way.TheVariants.{Own, Stream, Service, Response}
-use Rattle.exports.specs.declared.document.Row.{Row}
+use Rattle.policy_ready.specs.imports.Across.{views}
+use Rattle.policy_ready.specs.declared.imports.view.ViewItem.{ViewItem}
+use Rattle.policy_ready.specs.declared.imports.view.ViewItem.TheVariants.{At, TooLong as NotCrossed}
+use Rattle.policy_ready.specs.declared.imports.view.Way.{Way}
+use Rattle.policy_ready.specs.declared.imports.view.Way.TheVariants.{Own, Stream, Service, Response}
+use Rattle.policy_doc.specs.declared.exports.document.Row.{Row}
 use Rattle.service_exporter.specs.Limit.{is_full}
 use Rattle.service_exporter.specs.Routes.{Exporter}
 use Rattle.service_exporter.specs.declared.route.Route.{Route}
 use Rattle.service_routes.specs.Routes.{Name, exporter_of, opened, pruned, spent}
 use Rattle.world.specs.Routing.{View, view_of, view_with, next_subject, responses_on, route_for, under_subject}
-use Rattle.world_groups.specs.Served.{is_member, members}
+use Rattle.world_subscriptions.specs.groups.Served.{is_member, members}
 use Rattle.world_subscriptions.specs.Addressing.{delivery_to}
 use Rattle.hub.specs.Sound.{IsSound, user_at, may_subscribe, HasAllowance, is_to_receive}
 use Rattle.hub.specs.Items.{DeliveryItem, delivery_item, tells_of}

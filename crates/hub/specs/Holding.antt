@@ -4,7 +4,7 @@ use Rattle.events.specs.declared.event.Event.{Event}
 use Rattle.events.specs.declared.answer.Entry.{Entry}
 use Rattle.events.specs.declared.refusal.PublishRefusal.{PublishRefusal}
 use Rattle.events.specs.declared.refusal.PublishRefusal.TheVariants.{By, Held}
-use Rattle.world_leniency.specs.Held.{Terms}
+use Rattle.world_sessions.specs.leniency.Held.{Terms}
 use Rattle.world.specs.Transition.{transition}
 use Rattle.world.specs.Holding.{held_in, holders}
 use Rattle.hub.specs.History.{State, IsStep, is_history_full}

@@ -9,12 +9,12 @@ use Rattle.policy_ready.specs.declared.ready.User.{User}
 use Rattle.events.specs.declared.event.Command.{Command}
 use Rattle.events.specs.declared.event.Command.TheVariants.{Connect, Sub, Unsub, Pub, Take, Close, Reload}
 use Rattle.events.specs.declared.answer.Removed.{Removed}
-use Rattle.world_deliveries.specs.Sessions.{session_of}
+use Rattle.world_sessions.specs.deliveries.Sessions.{session_of}
 use Rattle.world_sessions.specs.Renewal.{with_user}
-use Rattle.world_deliveries.specs.declared.session.Session.{Session}
+use Rattle.world_sessions.specs.declared.deliveries.session.Session.{Session}
 use Rattle.world_rows.specs.declared.subscription.Subscription.{Subscription}
 use Rattle.service_routes.specs.Routes.{kept, pruned}
-use Rattle.service_rows.specs.Rows.{renewed}
+use Rattle.service_routes.specs.service_rows.Rows.{renewed}
 use Rattle.world.specs.World.{World}
 use Rattle.world.specs.Reload.{removed_by}
 use Rattle.hub.specs.Sound.{user_at, may_subscribe}

@@ -1,7 +1,7 @@
 -- What always holds of the grants of a session (docs/GUARANTEE.md, "What always holds").
 use Rattle.std.specs.Prelude.{◌≡◌, ◌==◌, ◌||◌, ◌≤◌, ℕ, Bool, true, false, List, Option, Some, None, length, nat_lt, All, AllPairs}
 use Rattle.subjects.specs.Equal.{same_subject}
-use Rattle.permission_doc.specs.declared.document.Terms.{Terms}
+use Rattle.policy_doc.specs.declared.permission_doc.document.Terms.{Terms}
 use Rattle.reply_grants.specs.Grants.{Grant}
 use Rattle.reply_grants.specs.Replies.{Table, grants_of}
 

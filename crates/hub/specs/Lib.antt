@@ -10,3 +10,4 @@ pub mod Items
 pub mod Guarantee
 pub mod Counts
 pub mod Holding
+pub mod joins

@@ -1,12 +1,12 @@
 -- What always holds of the response routes of an exporter (docs/GUARANTEE.md, "What always holds").
 use Rattle.std.specs.Prelude.{◌≡◌, ◌<◌, ◌≤◌, ◌-◌, ◌^◌, ℕ, List, true, length, All, AllPairs, IsSomeAnd}
-use Rattle.exports.specs.declared.document.Kind.TheVariants.{Service}
-use Rattle.exports.specs.declared.document.Row.{Row}
+use Rattle.policy_doc.specs.declared.exports.document.Kind.TheVariants.{Service}
+use Rattle.policy_doc.specs.declared.exports.document.Row.{Row}
 use Rattle.policy_doc.specs.declared.document.ImportDoc.{ImportDoc}
 use Rattle.policy_doc.specs.declared.document.PolicyDoc.{PolicyDoc}
 use Rattle.service_exporter.specs.Routes.{Exporter, Numbered, lives}
 use Rattle.service_routes.specs.Routes.{Name}
-use Rattle.service_rows.specs.Rows.{import_at, terms_of}
+use Rattle.service_routes.specs.service_rows.Rows.{import_at, terms_of}
 
 -- the numbers rise
 abbrev pub IsBefore : Numbered → Numbered → Type 0

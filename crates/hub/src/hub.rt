@@ -9,9 +9,9 @@ use std::collections::VecDeque;
 use std::hash::RandomState;
 use std::marker::Model;
 use std::mem;
+use world::copies::Standing;
 use world::{PlainWorld, World};
-use world_copies::Standing;
-use world_leniency::{Lenient, LenientToAll};
+use world_sessions::leniency::{Lenient, LenientToAll};
 
 /// The limits that a hub is given at its opening.
 #[derive(Clone, Copy, Debug)]

@@ -1,7 +1,9 @@
-//! The hub: the world with its history, one step, and runs of steps. Its contract is the routing guarantee.
+//! The hub: the world with its history, one step, runs of steps, and whether parts that were handed out are one history. Its
+//! contract is the routing guarantee. It knows no thread, no clock and no connection's bytes.
 #![tactic(auto)]
 
 mod hub;
+pub mod joins;
 mod segment;
 
 pub use events::{
@@ -12,5 +14,5 @@ pub use hub::{Caps, Hub};
 pub use policy_ready::{Ready, User};
 pub use segment::Segment;
 pub use world::PlainWorld;
-pub use world_copies::Standing;
-pub use world_leniency::{Lenient, LenientToAll};
+pub use world::copies::Standing;
+pub use world_sessions::leniency::{Lenient, LenientToAll};

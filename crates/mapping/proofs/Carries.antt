@@ -8,8 +8,8 @@ use Rattle.mapping.specs.declared.side.Side.{Side}
 use Rattle.mapping.specs.declared.error.MapError.{MapError}
 use Rattle.mapping.specs.Pairs.{IsMapped, IsSent, carried, count_stars, are_within, filled, numbered, stars_of, tail_of}
 use Rattle.mapping.specs.Sides.{AreSides, other_side}
-use Rattle.mapping_template.specs.Text.{with_tokens}
-use Rattle.mapping_template.proofs.Patterns.{grammar}
+use Rattle.mapping.specs.templates.Text.{with_tokens}
+use Rattle.mapping.proofs.templates.Patterns.{grammar}
 use Rattle.mapping.proofs.Filling.{counted-stars}
 use Rattle.mapping.proofs.Pairs.{AreFit, Joins, carried_if, some-joined, to_concrete, lengths, concrete_parts}
 use Rattle.mapping.proofs.Texts.{with-tokens_of}

@@ -5,7 +5,7 @@ use Rattle.std.proofs.lemmas.Bool.{and_parts}
 use Rattle.subjects.specs.Subject.{Token, is_star, is_tail, is_token, is_literal, same_token, in_set, tail_is_last}
 use Rattle.subjects.proofs.Same.{same_token-itself, equal_from_same}
 use Rattle.subjects.proofs.Samples.{tail_takes}
-use Rattle.mapping_template.proofs.Stars.{tail_no_star, stars-more, stars-same}
+use Rattle.mapping.proofs.templates.Stars.{tail_no_star, stars-more, stars-same}
 use Rattle.mapping.specs.Pairs.{count_stars, has_tail, numbered, filled, stars_of, tail_of}
 
 pub last_rest : (p : Token) (ps : List Token) → tail_is_last (p ∷ ps) ≡ true → tail_is_last ps ≡ true

@@ -6,10 +6,10 @@ use Rattle.std.proofs.lemmas.List.FromFn.{length-range_with_len}
 use Rattle.subjects.specs.Subject.{Token, is_star, is_tail, is_token, is_wildcard, is_literal, IsPattern, IsSubject, tokens_of}
 use Rattle.mapping.specs.Pairs.{RowMap, IsRowMap, IsPair, IsMapped, IsSide, carried, forward, back, count_stars, has_tail, has_repeat, refers_to_each}
 use Rattle.subjects.proofs.Text.{tokens_from_literals}
-use Rattle.mapping_template.specs.Template.{local_of, local_token, references_of}
-use Rattle.mapping_template.specs.Text.{with_tokens}
-use Rattle.mapping_template.proofs.Patterns.{grammar}
-use Rattle.mapping_template.proofs.Stars.{stars-same}
+use Rattle.mapping.specs.templates.Template.{local_of, local_token, references_of}
+use Rattle.mapping.specs.templates.Text.{with_tokens}
+use Rattle.mapping.proofs.templates.Patterns.{grammar}
+use Rattle.mapping.proofs.templates.Stars.{stars-same}
 use Rattle.mapping.proofs.Orders.{each-range, once-range}
 use Rattle.mapping.proofs.Pairs.{concrete_parts, fit_forward, fit_back, forward_pairs, back_pairs, by_pairs}
 use Rattle.mapping.specs.declared.error.MapError.{MapError}
@@ -17,11 +17,11 @@ use Rattle.mapping.specs.Sides.{row_map, AreOf, AreSides}
 use Rattle.mapping.specs.declared.side.Side.{Side}
 use Rattle.mapping.proofs.Carries.{concrete}
 use Rattle.mapping.proofs.Texts.{with-append, with-tokens_of, tokens-append}
-use Rattle.mapping_template.proofs.Parts.{fits, spelled-pattern, tokens-local, tail-local, stars-local}
+use Rattle.mapping.proofs.templates.Parts.{fits, spelled-pattern, tokens-local, tail-local, stars-local}
 use Rattle.mapping.specs.Fault.{in_order, templated, template_fault}
 use Rattle.std.specs.Prelude.{nat_lt}
 use Rattle.subjects.specs.Fault.{pattern_fault}
-use Rattle.mapping_template.specs.Fault.{is_spelled}
+use Rattle.mapping.specs.templates.Fault.{is_spelled}
 use Rattle.std.proofs.lemmas.List.{length-map, length-append}
 
 no_wildcard : (t : Token) → is_literal t ≡ true → (is_star t ≡ false) × (is_tail t ≡ false)

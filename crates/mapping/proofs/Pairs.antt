@@ -9,7 +9,7 @@ use Rattle.subjects.proofs.Grammar.{concrete-tests}
 use Rattle.mapping.specs.Pairs.{RowMap, IsRowMap, IsPair, IsGiven, IsMapped, IsSent, IsSide, count_stars, has_tail, numbered, filled, stars_of, tail_of, are_within, has_each, carried, inverse}
 use Rattle.mapping.specs.Laws.{OneToOne, PairsAreSubjects, ForwardIsPairs, BackIsPairs, BackUndoesForward}
 use Rattle.mapping.specs.declared.error.MapError.{MapError}
-use Rattle.mapping_template.proofs.Patterns.{IsGrammar, grammar}
+use Rattle.mapping.proofs.templates.Patterns.{IsGrammar, grammar}
 use Rattle.mapping.proofs.Filling.{member-filled, filled-again, stars-filled, tail-filled, filled-without, literal-filled, some-filled, counted-stars, literal-stars, literal-tail, some-tail, length-filled, tail_len}
 use Rattle.mapping.proofs.Orders.{undone, redone, within-inverse, length-inverse, literal-order}
 

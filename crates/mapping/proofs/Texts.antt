@@ -6,7 +6,7 @@ use Rattle.std.proofs.lemmas.Bool.{and_parts}
 use Rattle.subjects.specs.Subject.{Token, is_token, text_of, tokens_of}
 use Rattle.subjects.proofs.Grammar.{not_empty}
 use Rattle.subjects.proofs.Text.{tokens_again}
-use Rattle.mapping_template.specs.Text.{with_token, with_tokens}
+use Rattle.mapping.specs.templates.Text.{with_token, with_tokens}
 
 -- tokens, each behind a dot
 abbrev behind_text : List Token → List ℕ

@@ -2,10 +2,10 @@
 use Rattle.std.specs.Prelude.{◌≡◌, ◌+◌, ◌++◌, ℕ, List, length, Option, Some, None, Result, Ok, Err, if◌then◌else◌, nat_lt, codes}
 use Rattle.std.specs.List.{range_with_len}
 use Rattle.subjects.specs.Subject.{Token}
-use Rattle.mapping_template.specs.Template.{references_of, local_of}
-pub use Rattle.mapping_template.specs.Fault.{differ, error_text, is_spelled, references_fault, template_fault}
-use Rattle.mapping_template.specs.declared.error.MappingError.{MappingError}
-use Rattle.mapping_template.specs.declared.error.MappingError.TheVariants.{TooLong, NoMemory}
+use Rattle.mapping.specs.templates.Template.{references_of, local_of}
+pub use Rattle.mapping.specs.templates.Fault.{differ, error_text, is_spelled, references_fault, template_fault}
+use Rattle.mapping.specs.declared.templates.error.MappingError.{MappingError}
+use Rattle.mapping.specs.declared.templates.error.MappingError.TheVariants.{TooLong, NoMemory}
 use Rattle.mapping.specs.Pairs.{RowMap, count_stars}
 use Rattle.mapping.specs.declared.error.MapError.{MapError}
 use Rattle.mapping.specs.declared.error.MapError.TheVariants as map_error

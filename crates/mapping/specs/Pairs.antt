@@ -3,7 +3,7 @@
 use Rattle.std.specs.Prelude.{◌≡◌, ◌<◌, ◌≤◌, ◌+◌, ◌-◌, ◌==◌, ℕ, Bool, true, false, IsTrue, List, [], ◌∷◌, length, map, drop, get_or, Option, Some, None, Result, Ok, Err, ◌⊎◌, if◌then◌else◌, nat_lt}
 use Rattle.std.specs.List.{list_all, range_with_len, position_or_len}
 use Rattle.subjects.specs.Subject.{Token, is_star, is_tail, is_literal, in_set, IsPattern, IsConcreteSubject}
-pub use Rattle.mapping_template.specs.Wildcards.{are_within, contains, count_stars, has_each, has_repeat, has_tail, refers_to_each}
+pub use Rattle.mapping.specs.templates.Wildcards.{are_within, contains, count_stars, has_each, has_repeat, has_tail, refers_to_each}
 use Rattle.mapping.specs.declared.error.MapError.{MapError}
 use Rattle.mapping.specs.declared.error.MapError.TheVariants.{TooLong, NoMemory}
 

@@ -2,11 +2,11 @@
 ghost use Rattle.std.specs.Prelude.{◌≡◌, IfOk, true, false, length, nat_lt};
 ghost use Rattle.subjects.specs.Subject.{tokens_of};
 ghost use Rattle.subjects.specs.Fault.{pattern_fault};
-ghost use Rattle.mapping_template.specs.Fault.{is_spelled};
-ghost use Rattle.mapping_template.specs.Template.{local_of, references_of};
+ghost use Rattle.mapping.specs.templates.Fault.{is_spelled};
+ghost use Rattle.mapping.specs.templates.Template.{local_of, references_of};
 
+use crate::templates::{References, local_text};
 use base::NoMemory;
-use mapping_template::{References, local_text};
 use std::alloc::Global;
 use subjects::Pattern;
 

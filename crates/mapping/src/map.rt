@@ -5,10 +5,10 @@ use crate::MapError;
 use crate::locals::{local_of, parsed};
 use crate::making::{first_numbers, inverse};
 use crate::side::{Side, carry};
-use base::{Copying, NoMemory};
-use mapping_template::{
+use crate::templates::{
     MappingError, count_stars, count_tokens, is_longer, push_tokens, template_fault,
 };
+use base::{Copying, NoMemory};
 use std::alloc::Global;
 use std::marker::Model;
 use subjects::{Pattern, Subject, SubjectRef};

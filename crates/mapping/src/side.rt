@@ -3,12 +3,12 @@ ghost use Rattle.std.specs.Prelude.{◌≡◌, [], IfOk, false, length, map, nat
 ghost use Rattle.subjects.specs.Subject.{IsSubject, in_set};
 ghost use Rattle.mapping.specs.Pairs.{IsMapped, are_within, carried, count_stars, filled, numbered};
 ghost use Rattle.mapping.specs.Sides.{AreSides, other_side};
-ghost use Rattle.mapping_template.specs.Text.{with_tokens};
+ghost use Rattle.mapping.specs.templates.Text.{with_tokens};
 
 use crate::MapError;
 use crate::given::Given;
+use crate::templates::{is_longer, push_token, push_tokens};
 use base::NoMemory;
-use mapping_template::{is_longer, push_token, push_tokens};
 use std::alloc::Global;
 use subjects::{Pattern, Subject, SubjectRef, is_star, is_tail};
 

@@ -4,11 +4,14 @@ ghost use Rattle.subjects.specs.Fault.{subject_if};
 ghost use Rattle.subjects.specs.Subject.{tokens_of, IsSubject};
 ghost use Rattle.messages.specs.Messages.{is_subject_if, has_subjects, IsSubjectIf, HasSubjects};
 
-use base::{Copying, NoMemory};
+use base::{Copying, NoMemory, SharedText};
 use std::alloc::Global;
 use std::marker::Model;
 use subjects::SubjectRef;
 use wire_message::MessageText;
+
+/// A client's own id of a subscription.
+pub type Sid = SharedText;
 
 /// What is published: all that those whom it is for are sent alike. A clause sees its four parts. It is one part of what
 /// was read, so one more owner takes no memory.

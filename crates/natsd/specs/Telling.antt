@@ -7,10 +7,10 @@ use Rattle.command_line.specs.declared.question.Question.{Question}
 use Rattle.command_line.specs.declared.words.Task.{Task}
 use Rattle.command_line.specs.declared.words.Task.TheVariants.{Play, Check, Sets, Explain, BadKind, BadLog, Help, Version}
 use Rattle.command_line.specs.Question.{Word}
-use Rattle.explain_places.specs.Place.{IsDecidingPlace}
+use Rattle.explain.specs.places.Place.{IsDecidingPlace}
 use Rattle.policy_doc.specs.declared.document.PolicyDoc.{PolicyDoc}
-use Rattle.server_lines.specs.declared.notice.LogLevel.{LogLevel}
-use Rattle.server_lines.specs.declared.notice.LogLevel.TheVariants as level
+use Rattle.server_log.specs.declared.lines.notice.LogLevel.{LogLevel}
+use Rattle.server_log.specs.declared.lines.notice.LogLevel.TheVariants as level
 
 abbrev pub level_of : LogChoice → LogLevel
 level_of choice.None = level.None

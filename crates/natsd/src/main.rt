@@ -1,4 +1,5 @@
-//! natsd: the routing core of a multi-tenant NATS server.
+//! natsd: the routing core of a multi-tenant NATS server. What it does stands in the crates below; here are its command line,
+//! its files and its threads.
 #![tactic(auto)]
 
 ghost use Rattle.std.specs.Prelude.{◌≡◌, Err};
@@ -17,11 +18,11 @@ use notes::tell_of_input;
 use on_file::run_on_file;
 use parting::split;
 use policy_input::PolicyInput;
-use policy_source::{Frames, WatchedFile};
 use serve::serve_clients;
 use server::Outputs;
+use server::policy_source::{Frames, WatchedFile};
 use server_log::ServerLog;
-use server_prints::{Prints, print_all};
+use server_log::prints::{Prints, print_all};
 use std::hash::RandomState;
 use std::io::Read;
 use std::process::ExitCode;

@@ -3,9 +3,8 @@ ghost use Rattle.std.specs.Prelude.{◌≤◌};
 ghost use Rattle.command_line.specs.Options.{AreServable};
 
 use command_line::ServeOptions;
-use policy_source::Policies;
-use server::{GateSource, Outputs, Settings};
-use server_gates::Open;
+use server::policy_source::Policies;
+use server::{GateSource, Open, Outputs, Settings};
 use std::alloc::AllocGlobal;
 use std::net::Net;
 use std::random::RandomSource;

@@ -3,7 +3,7 @@ ghost use Rattle.std.specs.Prelude.{◌≡◌};
 ghost use Rattle.natsd.specs.Telling.{level_of};
 
 use command_line::LogChoice;
-use policy_source::Watcher;
+use server::policy_source::Watcher;
 use server_log::{LogLevel, ServerLog, What};
 use std::sync::Wait;
 use std::time::Clock;

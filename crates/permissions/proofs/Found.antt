@@ -8,10 +8,10 @@ use Rattle.std.specs.Cmp.Lexicographic.{pointwise}
 use Rattle.std.proofs.lemmas.Slice.Eq.{bytes_eq-Decides}
 use Rattle.subjects.proofs.Same.{same_token-itself}
 use Rattle.subjects.proofs.Text.{pattern_again, again}
-use Rattle.permission_doc.specs.Entries.{entry_of}
-use Rattle.pattern_groups.specs.Links.{at}
-use Rattle.pattern_groups.specs.Places.{AreLiteral, Hashed, PassesByHash, pattern_at, hash_at}
-use Rattle.pattern_groups.proofs.Literal.{in_set-hash, covers-hash}
+use Rattle.policy_doc.specs.permission_doc.Entries.{entry_of}
+use Rattle.subjects.specs.pattern_groups.Links.{at}
+use Rattle.subjects.specs.pattern_groups.Places.{AreLiteral, Hashed, PassesByHash, pattern_at, hash_at}
+use Rattle.subjects.proofs.pattern_groups.Literal.{in_set-hash, covers-hash}
 use Rattle.permissions.specs.Lists.{Entry, Queue}
 use Rattle.permissions.specs.declared.decision.Among.{Among}
 use Rattle.permissions.specs.Looked.{is_looked_at, has_whole}

@@ -4,9 +4,9 @@ use Rattle.std.specs.List.{position, position_or_len, slice_index_or}
 use Rattle.std.proofs.lemmas.List.Sums.{position_or_len_is}
 use Rattle.std.proofs.lemmas.Grind.{common_steps}
 use Rattle.subjects.specs.Subject.{Token, Lacks}
-use Rattle.permission_doc.specs.Entries.{entry_of}
+use Rattle.policy_doc.specs.permission_doc.Entries.{entry_of}
 use Rattle.permissions.specs.Lists.{Entry, is_plain, is_queued}
-use Rattle.pattern_groups.specs.Links.{IsLeast as IsLeastPlace}
+use Rattle.subjects.specs.pattern_groups.Links.{IsLeast as IsLeastPlace}
 use Rattle.permissions.specs.Verdicts.{EachLacks, LacksSome, NoneCovers}
 
 -- where the place is the length there is none

@@ -3,7 +3,7 @@ use Rattle.std.proofs.Common.{◌≡◌, ◌<◌, ◌⊎◌, inl, inr, ℕ, Bool
 use Rattle.std.specs.Prelude.{IsSomeAnd, is_some}
 use Rattle.std.specs.List.{slice_index_or}
 use Rattle.subjects.specs.Subject.{Token, in_set, Covers, Lacks}
-use Rattle.permission_doc.specs.Entries.{entry_of}
+use Rattle.policy_doc.specs.permission_doc.Entries.{entry_of}
 use Rattle.permissions.specs.Lists.{Entry, Rules, Queue, is_plain, is_queued, has_queue, names, is_for}
 use Rattle.permissions.specs.declared.verdict.By.TheVariants.{All as AllowsAll, Index, Grant}
 use Rattle.permissions.specs.declared.verdict.Verdict.{Verdict}

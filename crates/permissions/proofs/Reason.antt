@@ -7,7 +7,7 @@ use Rattle.std.proofs.lemmas.List.Sums.{prefix_len_passes}
 use Rattle.std.proofs.lemmas.List.Quantifiers.{position-Some}
 use Rattle.subjects.specs.Subject.{Token, IsPattern, in_set, covers}
 use Rattle.subjects.proofs.Inclusion.{covers-Covers, covers_lacks}
-use Rattle.permission_doc.specs.Entries.{entry_of}
+use Rattle.policy_doc.specs.permission_doc.Entries.{entry_of}
 use Rattle.permissions.specs.Lists.{Entry, Rules, Lists, Queue, is_plain, is_queued, names, is_for}
 use Rattle.permissions.specs.declared.verdict.By.TheVariants.{All as AllowsAll, Index, Grant}
 use Rattle.permissions.specs.declared.verdict.Verdict.{Verdict}

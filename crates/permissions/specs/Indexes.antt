@@ -1,8 +1,8 @@
 -- The indexes of a direction's lists.
 use Rattle.std.specs.Prelude.{◌≡◌, ℕ, List, map, IfSome}
 use Rattle.subjects.specs.Subject.{Token}
-use Rattle.pattern_groups.specs.Places.{Hashed, AreLiteral, hash_at}
-use Rattle.pattern_groups.specs.Places as patterns
+use Rattle.subjects.specs.pattern_groups.Places.{Hashed, AreLiteral, hash_at}
+use Rattle.subjects.specs.pattern_groups.Places as patterns
 use Rattle.permissions.specs.Lists.{Entry, Rules}
 use Rattle.permissions.specs.declared.indexed.Indexes.{Indexes}
 use Rattle.permissions.specs.declared.indexed.Indexed.{Indexed}

@@ -2,11 +2,11 @@
 use Rattle.std.specs.Prelude.{◌||◌, Bool, false, not, List, [], Option, Some, None, is_some}
 use Rattle.std.specs.Option.{option_map, option_or}
 use Rattle.subjects.specs.Subject.{Token, in_set}
-use Rattle.permission_doc.specs.declared.document.Terms.{Terms}
+use Rattle.policy_doc.specs.declared.permission_doc.document.Terms.{Terms}
 use Rattle.policy_doc.specs.declared.document.UserDoc.{UserDoc}
-use Rattle.permission_doc.specs.declared.document.PermDoc.{PermDoc}
-use Rattle.permission_doc.specs.declared.document.Direction.{Direction}
-use Rattle.permission_doc.specs.declared.document.PermEntry.{PermEntry}
+use Rattle.policy_doc.specs.declared.permission_doc.document.PermDoc.{PermDoc}
+use Rattle.policy_doc.specs.declared.permission_doc.document.Direction.{Direction}
+use Rattle.policy_doc.specs.declared.permission_doc.document.PermEntry.{PermEntry}
 
 -- an entry: a pattern, and the pattern of the queue names that it is for, if it has a queue part
 abbrev pub Entry : Type 0

@@ -2,7 +2,7 @@ ghost use Rattle.std.specs.Prelude.{◌≡◌, ◌&&◌, [], length, position};
 ghost use Rattle.std.specs.List.{slice_index_or};
 ghost use Rattle.std.specs.Option.{option_copied};
 ghost use Rattle.subjects.specs.Subject.{in_set};
-ghost use Rattle.permission_doc.specs.Entries.{entry_of};
+ghost use Rattle.policy_doc.specs.permission_doc.Entries.{entry_of};
 ghost use Rattle.permissions.specs.Lists.{Entry, names, is_for};
 ghost use Rattle.permissions.specs.Looked.{is_looked_at, has_whole};
 ghost use Rattle.permissions.specs.Indexes.{AreIndexesOf, IsIndexOf};
@@ -13,8 +13,8 @@ ghost use Rattle.permissions.specs.declared.verdict.Verdict.TheVariants.{Allowed
 use crate::indexed::Indexes;
 use crate::subject_set::SubjectSet;
 use crate::{By, Verdict};
-use pattern_groups::{PatternIndex, Patterns};
-use permission_doc::{Direction, PermEntry};
+use policy_doc::permission_doc::{Direction, PermEntry};
+use subjects::pattern_groups::{PatternIndex, Patterns};
 use subjects::{Pattern, Subject, SubjectRef};
 
 /// Which entries of a list are looked at, by their queue parts.

@@ -5,7 +5,7 @@ ghost use Rattle.permissions.specs.Lists.{open_rules};
 
 use crate::Compiled;
 use base::Alike;
-use permission_doc::{Direction, PermDoc};
+use policy_doc::permission_doc::{Direction, PermDoc};
 
 // No permissions, and permissions that neither allow nor deny by a list and have no response terms, are the same.
 impl Alike for Compiled {

@@ -3,9 +3,9 @@ ghost use Rattle.std.specs.Prelude.{◌≡◌, IfOk};
 ghost use Rattle.permissions.specs.Indexes.{AreIndexed, AreIndexesOf, IsIndexOf};
 
 use base::NoMemory;
-use pattern_groups::PatternIndex;
-use permission_doc::{Direction, PermDoc, PermEntry};
+use policy_doc::permission_doc::{Direction, PermDoc, PermEntry};
 use std::alloc::Global;
+use subjects::pattern_groups::PatternIndex;
 
 /// The indexes of a direction's lists.
 #[derive(Debug, Drop)]

@@ -5,7 +5,7 @@ use Rattle.std.specs.Option.{option_map, option_or}
 use Rattle.std.specs.Str.{bytes_eq}
 use Rattle.std.specs.List.{slice_index_or}
 use Rattle.std.proofs.lemmas.List.Elements.{All-nil, All-cons, All-head, All-tail}
-use Rattle.mapping_template.specs.declared.error.MappingError.{MappingError}
+use Rattle.mapping.specs.declared.templates.error.MappingError.{MappingError}
 use Rattle.policy_doc.specs.Accounts.{Name}
 use Rattle.policy_doc.specs.Imports.{IsValidImport, AreValidImports, cause_by, cause_with, cause_of, exporter_of, export_of, mapping_fault, fault_at, place_at, fault_in_rows, fault_in_imports}
 use Rattle.policy_doc.specs.Document.{builtin_account, builtin_doc, HaveUniqueNames, IsPolicyFault, IsValidPolicy, users_of}

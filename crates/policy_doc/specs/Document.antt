@@ -15,9 +15,9 @@ use Rattle.policy_doc.specs.declared.document.ImportDoc.{ImportDoc}
 use Rattle.policy_doc.specs.declared.document.Version.TheVariants.{One}
 use Rattle.account_mappings.specs.Drawing.{SourceMap}
 use Rattle.policy_doc.specs.declared.document.Counts.{Counts}
-use Rattle.exports.specs.declared.document.ExportDoc.{ExportDoc}
-use Rattle.permission_doc.specs.declared.document.Direction.{Direction}
-use Rattle.permission_doc.specs.Entries.{entry_of}
+use Rattle.policy_doc.specs.declared.exports.document.ExportDoc.{ExportDoc}
+use Rattle.policy_doc.specs.declared.permission_doc.document.Direction.{Direction}
+use Rattle.policy_doc.specs.permission_doc.Entries.{entry_of}
 
 -- the users of accounts, account by account
 abbrev pub users_of : List NamedAccount → List UserDoc

@@ -5,8 +5,8 @@ use Rattle.std.specs.Str.{bytes_eq}
 use Rattle.subjects.specs.Subject.{Token, tokens_of}
 use Rattle.mapping.specs.Pairs.{RowMap}
 use Rattle.mapping.specs.Fault.{unchanged, prefixed, prefix_fault, templated, template_fault}
-use Rattle.mapping_template.specs.declared.error.MappingError.{MappingError}
-use Rattle.exports.specs.Exports.{admits}
+use Rattle.mapping.specs.declared.templates.error.MappingError.{MappingError}
+use Rattle.policy_doc.specs.exports.Exports.{admits}
 use Rattle.policy_doc.specs.Accounts.{Name, has_name}
 use Rattle.policy_doc.specs.declared.document.ImportDoc.{ImportDoc}
 use Rattle.policy_doc.specs.declared.document.NamedAccount.{NamedAccount}

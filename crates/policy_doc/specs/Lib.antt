@@ -2,3 +2,5 @@ pub mod Accounts
 pub mod Imports
 pub mod Document
 pub mod Faults
+pub mod exports
+pub mod permission_doc

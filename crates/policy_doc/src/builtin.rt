@@ -3,7 +3,7 @@ ghost use Rattle.std.specs.Prelude.{◌≡◌, ◌∷◌, [], None, IfOk};
 ghost use Rattle.subjects.specs.Subject.{tokens_of};
 ghost use Rattle.subjects.specs.Fault.{pattern_fault};
 ghost use Rattle.policy_doc.specs.Document.{limited_direction, limited_user, demo_user, builtin_doc};
-ghost use Rattle.permission_doc.specs.Entries.{entry_of};
+ghost use Rattle.policy_doc.specs.permission_doc.Entries.{entry_of};
 
 use crate::{AccountDoc, Accounts, Direction, PermDoc, PermEntry, PolicyDoc, UserDoc, Version};
 use base::{Items, NoMemory};

@@ -1,9 +1,9 @@
 use crate::Accounts;
+use crate::exports::{ExportDoc, Kind};
+use crate::permission_doc::PermDoc;
 use account_mappings::AccountMap;
 use base::{Copying, Items, NoMemory};
 use bytes::Bytes;
-use exports::{ExportDoc, Kind};
-use permission_doc::PermDoc;
 use std::alloc::Global;
 use subjects::{Pattern, Subject};
 

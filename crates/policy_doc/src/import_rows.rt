@@ -2,10 +2,10 @@
 ghost use Rattle.std.specs.Prelude.{◌≡◌, ◌&&◌, Some, is_some};
 ghost use Rattle.policy_doc.specs.Imports.{cause_of, cause_with, export_of, fault_at, fault_in_imports, fault_in_rows, mapping_fault};
 
+use crate::exports::may_import;
 use crate::{Accounts, ImportDoc, NamedAccount, Place, PolicyFault};
 use bytes::Bytes;
-use exports::may_import;
-use mapping_template::{count_tokens, is_longer, template_fault};
+use mapping::templates::{count_tokens, is_longer, template_fault};
 
 /// Why an import row doesn't hold.
 #[derive(Clone, Copy, Debug)]

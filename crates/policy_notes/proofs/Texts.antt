@@ -4,7 +4,7 @@ use Rattle.std.specs.Str.{IsUtf8, is_utf8}
 use Rattle.std.proofs.lemmas.Str.{IsUtf8-from_is_utf8, is_utf8-from_IsUtf8}
 use Rattle.policy_doc.specs.declared.fault.PolicyFault.{PolicyFault}
 use Rattle.policy_doc.specs.Faults.{fault_place}
-use Rattle.reload.specs.declared.fault.ReloadFault.TheVariants.{Policy}
+use Rattle.policy_text.specs.declared.reload.fault.ReloadFault.TheVariants.{Policy}
 use Rattle.policy_notes.specs.Places.{named_by, named_row}
 use Rattle.policy_notes.specs.declared.place.Named.{Named}
 

@@ -6,12 +6,12 @@ use Rattle.std.specs.Str.{IsUtf8}
 use Rattle.std.specs.Prelude.{drop, nat_eq}
 use Rattle.json.specs.Print.{quoted}
 use Rattle.policy_walk.specs.declared.fault.ConfigFault.TheVariants.{TooLarge, NotJson}
-use Rattle.reload.specs.declared.fault.ReloadFault.{ReloadFault}
-use Rattle.reload.specs.declared.fault.ReloadFault.TheVariants.{Config}
-use Rattle.policy_places.specs.Place.{place_words}
-use Rattle.policy_places.specs.Repeats.{repeats_of, Repeated}
-use Rattle.policy_places.specs.Spots.{AreSpots}
-use Rattle.policy_places.specs.declared.spots.Spot.{Spot}
+use Rattle.policy_text.specs.declared.reload.fault.ReloadFault.{ReloadFault}
+use Rattle.policy_text.specs.declared.reload.fault.ReloadFault.TheVariants.{Config}
+use Rattle.policy_notes.specs.positions.Place.{place_words}
+use Rattle.policy_notes.specs.positions.Repeats.{repeats_of, Repeated}
+use Rattle.policy_notes.specs.positions.Spots.{AreSpots}
+use Rattle.policy_notes.specs.declared.positions.spots.Spot.{Spot}
 use Rattle.policy_notes.specs.Places.{place_of, told_fault}
 use Rattle.policy_notes.specs.declared.notes.Notes.{Notes}
 

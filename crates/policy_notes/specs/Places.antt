@@ -15,13 +15,13 @@ use Rattle.policy_doc.specs.declared.fault.PolicyFault.TheVariants.{DuplicateUse
 use Rattle.policy_walk.specs.Path.{Path, at_key, at_index}
 use Rattle.policy_walk.specs.declared.fault.ConfigFault.{ConfigFault}
 use Rattle.policy_walk.specs.declared.fault.ConfigFault.TheVariants.{TooLarge, NotJson, UnknownKey, WrongType, BadSubject, BadDuration, BadMax, BadName, HashedPassword, BadWeight, BadDestination, NoMemory}
-use Rattle.reload.specs.declared.fault.ReloadFault.{ReloadFault}
-use Rattle.reload.specs.declared.fault.ReloadFault.TheVariants.{Config, Policy}
-use Rattle.policy_places.specs.Names.{at_of}
-use Rattle.policy_places.specs.Spots.{AreSpots}
-use Rattle.policy_places.specs.Place.{column_after, line_after, place_words}
-use Rattle.policy_places.specs.declared.place.Place.{Place}
-use Rattle.policy_places.specs.declared.spots.Spot.{Spot}
+use Rattle.policy_text.specs.declared.reload.fault.ReloadFault.{ReloadFault}
+use Rattle.policy_text.specs.declared.reload.fault.ReloadFault.TheVariants.{Config, Policy}
+use Rattle.policy_notes.specs.positions.Names.{at_of}
+use Rattle.policy_notes.specs.positions.Spots.{AreSpots}
+use Rattle.policy_notes.specs.positions.Place.{column_after, line_after, place_words}
+use Rattle.policy_notes.specs.declared.positions.place.Place.{Place}
+use Rattle.policy_notes.specs.declared.positions.spots.Spot.{Spot}
 use Rattle.policy_notes.specs.Twins.{twin_path}
 use Rattle.policy_notes.specs.declared.place.Named.{Named}
 use Rattle.policy_notes.specs.declared.place.Shown.{Shown}

@@ -2,17 +2,17 @@
 use Rattle.std.specs.Prelude.{◌++◌, ℕ, List, [], Option, None, Some, codes, slice_get}
 use Rattle.std.specs.Option.{option_and_then, option_map}
 use Rattle.std.specs.Result.{result_ok}
-use Rattle.account_config.specs.Policy.{policy_of}
+use Rattle.policy_text.specs.account_config.Policy.{policy_of}
 use Rattle.policy_doc.specs.declared.document.NamedAccount.{NamedAccount}
 use Rattle.policy_doc.specs.declared.document.PolicyDoc.{PolicyDoc}
 use Rattle.policy_doc.specs.declared.document.UserDoc.{UserDoc}
 use Rattle.policy_doc.specs.declared.fault.Place.{Place as Row}
 use Rattle.policy_doc.specs.declared.fault.PolicyFault.{PolicyFault}
 use Rattle.policy_doc.specs.declared.fault.PolicyFault.TheVariants.{DuplicateUser, UnknownAccount, SelfImport, PrefixAndTo, BadMapping, ImportNotExported, NoMemory}
-use Rattle.policy_paths.specs.Users.{user_path}
+use Rattle.policy_notes.specs.paths.Users.{user_path}
 use Rattle.policy_walk.specs.Path.{Path, at_key}
-use Rattle.reload.specs.declared.fault.ReloadFault.{ReloadFault}
-use Rattle.reload.specs.declared.fault.ReloadFault.TheVariants.{Config, Policy}
+use Rattle.policy_text.specs.declared.reload.fault.ReloadFault.{ReloadFault}
+use Rattle.policy_text.specs.declared.reload.fault.ReloadFault.TheVariants.{Config, Policy}
 
 -- the user in a row
 abbrev pub user_in : PolicyDoc → Row → Option UserDoc

@@ -1,16 +1,16 @@
 ghost use Rattle.std.specs.Prelude.{◌≡◌, ◌++◌, IfOk, [], map, string_bytes};
 ghost use Rattle.std.specs.Option.{option_copied, option_map, option_and_then};
-ghost use Rattle.policy_places.specs.Repeats.{repeated};
+ghost use Rattle.policy_notes.specs.positions.Repeats.{repeated};
 ghost use Rattle.policy_notes.specs.Notes.{key_of, warning, warnings_of, AreNotes, IsNone, IsNotesOfJson};
 ghost use Rattle.policy_notes.specs.Places.{told_fault, twin_words};
 ghost use Rattle.policy_notes.specs.Twins.{twin_path};
 
 use crate::place::{path_of, place_text, place_words, quoted, to_words};
+use crate::positions::{Repeat, Spot, place_at, repeats_of, spots_of};
 use crate::twin::twin_path;
 use base::NoMemory;
-use policy_places::{Repeat, Spot, place_at, repeats_of, spots_of};
+use policy_text::reload::ReloadFault;
 use policy_walk::ConfigFault;
-use reload::ReloadFault;
 use serde_json::Value;
 use std::alloc::Global;
 use std::str;

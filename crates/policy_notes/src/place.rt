@@ -7,15 +7,15 @@ ghost use Rattle.json.specs.Print.{quoted};
 ghost use Rattle.serde_json.specs.Find.{as_str, pointer};
 ghost use Rattle.serde_json.specs.View.{view};
 ghost use Rattle.policy_doc.specs.Faults.{fault_place};
-ghost use Rattle.policy_places.specs.Place.{place_words};
+ghost use Rattle.policy_notes.specs.positions.Place.{place_words};
 ghost use Rattle.policy_notes.specs.Places.{begin_or, byte_under, first_key, is_account, is_duplicate, is_space, key_at, named_by, named_by_config, named_row, naming, place_under, row_named, shown_if, shown_name, shown_words, text_under, told, told_of, IsToldOf};
 
+use crate::positions::{Place, Spot, at_of, place_at, spots_of};
 use base::NoMemory;
 use json::{Reader, Scratch, Token, Writer};
 use policy_doc::PolicyFault;
-use policy_places::{Place, Spot, at_of, place_at, spots_of};
+use policy_text::reload::ReloadFault;
 use policy_walk::{ConfigFault, Path};
-use reload::ReloadFault;
 use serde_json::Value;
 use std::alloc::Global;
 use std::str;

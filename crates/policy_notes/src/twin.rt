@@ -3,12 +3,12 @@ ghost use Rattle.std.specs.Prelude.{◌≡◌, IfOk};
 ghost use Rattle.std.specs.Option.{option_copied};
 ghost use Rattle.policy_notes.specs.Twins.{first_path, named_first, twin_path, user_in};
 
-use account_config::read_policy;
+use crate::paths::user_path;
 use base::NoMemory;
 use policy_doc::{Place, PolicyDoc, PolicyFault, UserDoc};
-use policy_paths::user_path;
+use policy_text::account_config::read_policy;
+use policy_text::reload::ReloadFault;
 use policy_walk::Path;
-use reload::ReloadFault;
 use std::alloc::Global;
 
 /// Returns the path of the name of the first user that has the name of the user with a fault, if that is the fault.

@@ -3,7 +3,7 @@ use Rattle.std.proofs.Common.{◌≡◌, ℕ, List, Option, Some, None, Ok, Err,
 use Rattle.std.specs.Option.{is_some, ok_or}
 use Rattle.subjects.specs.Subject.{tokens_of}
 use Rattle.subjects.specs.Fault.{pattern_fault}
-use Rattle.permission_doc.specs.declared.document.PermEntry.{PermEntry}
+use Rattle.policy_doc.specs.declared.permission_doc.document.PermEntry.{PermEntry}
 use Rattle.policy_permissions.specs.declared.entry.Side.{Side}
 use Rattle.policy_permissions.specs.declared.entry.Side.TheVariants.{Publish, Subscribe}
 use Rattle.policy_walk.specs.declared.fault.ConfigFault.TheVariants.{BadSubject}

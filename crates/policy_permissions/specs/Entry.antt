@@ -3,8 +3,8 @@ use Rattle.std.specs.Prelude.{◌==◌, ◌&&◌, ℕ, Bool, true, not, List, []
 use Rattle.std.specs.Option.{option_map}
 use Rattle.subjects.specs.Subject.{tokens_of}
 use Rattle.subjects.specs.Fault.{pattern_fault}
-use Rattle.permission_doc.specs.Entries.{entry_of}
-use Rattle.permission_doc.specs.declared.document.PermEntry.{PermEntry}
+use Rattle.policy_doc.specs.permission_doc.Entries.{entry_of}
+use Rattle.policy_doc.specs.declared.permission_doc.document.PermEntry.{PermEntry}
 use Rattle.policy_permissions.specs.declared.entry.Side.{Side}
 use Rattle.policy_permissions.specs.declared.entry.Side.TheVariants.{Publish, Subscribe}
 

@@ -6,12 +6,12 @@ use Rattle.std.specs.Ordering.{int_eq}
 use Rattle.serde_json.specs.Data.{Data}
 use Rattle.serde_json.specs.Find.{get, as_bool, as_str, as_object, as_number, as_i64, as_u64}
 use Rattle.policy_walk.specs.Durations.{duration_of}
-use Rattle.permission_doc.specs.declared.document.Terms.{Terms}
+use Rattle.policy_doc.specs.declared.permission_doc.document.Terms.{Terms}
 use Rattle.subjects.specs.Subject.{Token}
 use Rattle.subjects.specs.Fault.{pattern_if}
-use Rattle.permission_doc.specs.declared.document.PermDoc.{PermDoc}
-use Rattle.permission_doc.specs.declared.document.Direction.{Direction}
-use Rattle.permission_doc.specs.declared.document.PermEntry.{PermEntry}
+use Rattle.policy_doc.specs.declared.permission_doc.document.PermDoc.{PermDoc}
+use Rattle.policy_doc.specs.declared.permission_doc.document.Direction.{Direction}
+use Rattle.policy_doc.specs.declared.permission_doc.document.PermEntry.{PermEntry}
 use Rattle.policy_walk.specs.declared.fault.ConfigFault.TheVariants.{WrongType, BadSubject, BadDuration, BadMax}
 use Rattle.policy_permissions.specs.declared.entry.Side.{Side}
 use Rattle.policy_permissions.specs.declared.entry.Side.TheVariants.{Publish, Subscribe}

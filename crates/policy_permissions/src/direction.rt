@@ -7,7 +7,7 @@ ghost use Rattle.policy_permissions.specs.Permissions.{allow_at, direction_at, e
 use crate::entry::{Side, entry_from};
 use crate::responses::allow_responses_of;
 use base::Items;
-use permission_doc::{Direction, PermDoc, PermEntry};
+use policy_doc::permission_doc::{Direction, PermDoc, PermEntry};
 use policy_walk::{ConfigFault, Path, Reader, judge, list_of, text_of};
 use serde_json::Value;
 use std::alloc::Global;

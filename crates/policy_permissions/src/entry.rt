@@ -4,11 +4,11 @@ ghost use Rattle.policy_permissions.specs.Entry.{behind_spaces, entry_parts};
 ghost use Rattle.policy_walk.specs.Fault.{Gives};
 ghost use Rattle.policy_permissions.specs.Permissions.{entry_from, parts_from, pattern_from, queue_from};
 
-use permission_doc::PermEntry;
+use policy_doc::permission_doc::PermEntry;
 use policy_walk::{ConfigFault, Path};
 use std::alloc::Global;
-use subject_texts::pattern_if;
 use subjects::Pattern;
+use subjects::texts::pattern_if;
 
 /// What the entries of a list decide: a subscribe entry may have a queue part.
 #[derive(Clone, Copy, Debug)]

@@ -1,4 +1,5 @@
-//! The permissions of a user, as an operator writes them in JSON (docs/POLICY.md, "Permissions").
+//! The permissions of a user, as an operator writes them in JSON (docs/POLICY.md, "Permissions"). It knows neither accounts
+//! nor what a permission means.
 #![tactic(auto)]
 
 mod direction;

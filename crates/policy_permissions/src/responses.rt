@@ -4,7 +4,7 @@ ghost use Rattle.serde_json.specs.View.{view};
 ghost use Rattle.policy_walk.specs.Fault.{Gives};
 ghost use Rattle.policy_permissions.specs.Permissions.{allow_responses_at, duration_at, duration_from, expires_under, is_bound, max_at, max_under, responses_at, responses_under, terms_at};
 
-use permission_doc::Terms;
+use policy_doc::permission_doc::Terms;
 use policy_walk::{ConfigFault, Path, judge, read_duration, text_of};
 use serde_json::Value;
 use std::alloc::Global;

@@ -12,7 +12,7 @@ use Rattle.policy_doc.specs.Document.{users_of as users_of_accounts, user_name, 
 use Rattle.policy_doc.specs.declared.document.PolicyDoc.{PolicyDoc}
 use Rattle.policy_doc.specs.declared.document.NamedAccount.{NamedAccount}
 use Rattle.policy_doc.specs.declared.document.UserDoc.{UserDoc}
-use Rattle.permission_doc.specs.declared.document.PermDoc.{PermDoc}
+use Rattle.policy_doc.specs.declared.permission_doc.document.PermDoc.{PermDoc}
 use Rattle.account_mappings.specs.Drawing.{SourceMap}
 use Rattle.policy_ready.specs.Users.{user_in, users_in, users_of, is_same_user}
 use Rattle.policy_ready.specs.declared.ready.User.{User}

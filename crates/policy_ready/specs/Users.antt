@@ -5,7 +5,7 @@ use Rattle.std.specs.Cmp.Lexicographic.{pointwise}
 use Rattle.policy_doc.specs.declared.document.PolicyDoc.{PolicyDoc}
 use Rattle.policy_doc.specs.declared.document.NamedAccount.{NamedAccount}
 use Rattle.policy_doc.specs.declared.document.UserDoc.{UserDoc}
-use Rattle.permission_doc.specs.declared.document.PermDoc.{PermDoc}
+use Rattle.policy_doc.specs.declared.permission_doc.document.PermDoc.{PermDoc}
 use Rattle.account_mappings.specs.Drawing.{SourceMap}
 use Rattle.permissions.specs.Lists.{lists_of}
 use Rattle.policy_ready.specs.declared.ready.User.{User}

@@ -1,6 +1,8 @@
-//! A policy made ready to be asked: each of its users with compiled permissions.
+//! A policy made ready to be asked: each of its users with compiled permissions, and the views of a message across its import
+//! rows. It knows no text of a policy, and nothing that changes between two reloads.
 #![tactic(auto)]
 
+pub mod imports;
 mod ready;
 
 pub use ready::{Ready, User};

@@ -1,9 +1,9 @@
 ghost use Rattle.std.specs.Prelude.{◌≡◌, ◌++◌, IfOk, OnOk};
 
+use crate::imports::Rows;
 use account_mappings::Mappings;
 use base::{Alike, Copying, NoMemory, SharedText};
 use bytes::Bytes;
-use imports::Rows;
 use permissions::Compiled;
 use policy_doc::{NamedAccount, PermDoc, Policy, PolicyDoc, UserDoc};
 use std::alloc::Global;
@@ -98,7 +98,7 @@ impl Model for Ready {
     ghost use Rattle.policy_ready.specs.Users.{users_of};
     ghost use Rattle.std.specs.Arc.{arc_value};
     ghost use Rattle.policy_doc.specs.Document.{IsValidPolicy};
-    ghost use Rattle.imports.specs.Views.{rows_of};
+    ghost use Rattle.policy_ready.specs.imports.Views.{rows_of};
 
     ghost view = { λ r. (arc_value r.shared).policy };
 
@@ -111,7 +111,7 @@ impl Ready {
     ghost use Rattle.std.specs.Prelude.{◌≡◌, Some, IfOk, IfErr};
     ghost use Rattle.std.specs.Option.{option_copied};
     ghost use Rattle.policy_ready.specs.Users.{users_of, user_with_password, user_again};
-    ghost use Rattle.imports.specs.Views.{rows_of};
+    ghost use Rattle.policy_ready.specs.imports.Views.{rows_of};
 
     /// The policy, made ready. Where memory could not be had, the policy is handed back.
     pub fn of(alloc: Global, policy: Policy) -> Result<Ready, (Policy, NoMemory)>
@@ -213,7 +213,7 @@ ghost use Rattle.std.specs.List.{HoldsAt};
 ghost use Rattle.std.specs.Option.{option_copied};
 ghost use Rattle.permissions.specs.Lists.{lists_of, lists_with};
 ghost use Rattle.policy_ready.specs.Users.{is_same_user, users_in, users_of as all_users_of};
-ghost use Rattle.imports.specs.Views.{rows_of};
+ghost use Rattle.policy_ready.specs.imports.Views.{rows_of};
 
 /// Shares what was made ready. Where memory could not be had, the policy is handed back.
 fn share(alloc: Global, parts: Parts) -> Result<Ready, (Policy, NoMemory)>

@@ -1,3 +1,4 @@
 pub mod Sets
 pub mod Firsts
 pub mod Lines
+pub mod parts

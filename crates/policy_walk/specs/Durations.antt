@@ -3,7 +3,7 @@ use Rattle.std.specs.Prelude.{ℕ, ◌*◌, ◌==◌, List, codes, take, drop, O
 use Rattle.std.specs.Char.{is_ascii_digit}
 use Rattle.std.specs.List.{prefix_len}
 use Rattle.std.specs.Str.{bytes_eq}
-use Rattle.digits.specs.Short.{short_number}
+use Rattle.base.specs.decimal.Short.{short_number}
 
 -- the milliseconds of a unit
 abbrev pub unit_ms : List ℕ → Option ℕ

@@ -1,7 +1,7 @@
 ghost use Rattle.std.specs.Prelude.{◌≡◌, ◌≤◌, ⊤, MatchOption, Some};
 ghost use Rattle.policy_walk.specs.Durations.{unit_ms, duration_by, duration_of};
 
-use digits::{count_digits, short_number};
+use base::decimal::{count_digits, short_number};
 
 /// How many digits a duration has at most.
 const MOST_DIGITS: usize = 9;

@@ -1,5 +1,5 @@
-//! A walk over the JSON of a policy: where it is, its objects by their tables, its texts, lists and durations, and
-//! what is at fault (docs/POLICY.md, "Objects" and "Faults").
+//! A walk over the JSON of a policy: where it is, its objects by their tables, its texts, lists and durations, and what is at
+//! fault (docs/POLICY.md, "Objects" and "Faults"). It knows no key of a policy.
 #![tactic(auto)]
 
 mod duration;

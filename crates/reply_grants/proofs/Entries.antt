@@ -7,7 +7,7 @@ use Rattle.std.proofs.lemmas.Bool.{cases_Bool}
 use Rattle.subjects.specs.Subject.{Token}
 use Rattle.subjects.specs.Equal.{same_subject, same_subject-equiv}
 use Rattle.reply_grants.specs.declared.grant_table.Granted.{Granted}
-use Rattle.permission_doc.specs.declared.document.Terms.{Terms}
+use Rattle.policy_doc.specs.declared.permission_doc.document.Terms.{Terms}
 use Rattle.reply_grants.specs.Grants.{Grant, after_response, answered, has_live, without}
 use Rattle.reply_grants.specs.Window.{Entry, grant_of, window}
 

@@ -9,7 +9,7 @@ use Rattle.indexmap.specs.IndexMap.{move_index, set_value_at}
 use Rattle.subjects.specs.Subject.{Token}
 use Rattle.subjects.specs.Equal.{same_subject}
 use Rattle.reply_grants.specs.declared.grant_table.Granted.{Granted}
-use Rattle.permission_doc.specs.declared.document.Terms.{Terms}
+use Rattle.policy_doc.specs.declared.permission_doc.document.Terms.{Terms}
 use Rattle.reply_grants.specs.Grants.{Grant, has_live, is_live, without}
 use Rattle.reply_grants.specs.Window.{Entry, grant_of, window}
 use Rattle.reply_grants.proofs.Entries.{NoneHas, equal, itself, turned, none_after, none_dropped, none_live, none_without}

@@ -3,7 +3,7 @@
 use Rattle.std.specs.Prelude.{ℕ, List, [], Option, Some, None, filter}
 use Rattle.std.specs.Option.{option_map, option_or}
 use Rattle.subjects.specs.Subject.{Token}
-use Rattle.permission_doc.specs.declared.document.Terms.{Terms}
+use Rattle.policy_doc.specs.declared.permission_doc.document.Terms.{Terms}
 use Rattle.reply_grants.specs.declared.replies.Note.{Note}
 use Rattle.reply_grants.specs.Grants.{Grant, is_live, after_note, after_response, after_end}
 

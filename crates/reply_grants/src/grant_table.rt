@@ -12,7 +12,7 @@ ghost use Rattle.reply_grants.specs.Window.{Entry, IsKept, grant_of, so_far, win
 use crate::subject_key::SubjectKey;
 use crate::terms::allow;
 use indexmap::IndexMap;
-use permission_doc::Terms;
+use policy_doc::permission_doc::Terms;
 use std::hash::RandomState;
 use subjects::{Subject, SubjectRef};
 

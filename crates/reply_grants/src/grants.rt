@@ -4,7 +4,7 @@ use crate::grant_table::{
 use crate::plain::{PlainGrant, plain_grants};
 use base::{Items, NoMemory};
 use indexmap::IndexMap;
-use permission_doc::Terms;
+use policy_doc::permission_doc::Terms;
 use std::alloc::Global;
 use std::hash::RandomState;
 use std::marker::Model;

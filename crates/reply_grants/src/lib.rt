@@ -1,4 +1,5 @@
-//! The reply subjects on which a user may respond: since when, and how many responses have passed.
+//! The reply subjects on which a user may respond: since when, and how many responses have passed. It knows no session and no
+//! clock: the moment is what its caller says.
 #![tactic(auto)]
 
 mod grant_table;

@@ -1,6 +1,6 @@
 use crate::{Grants, PlainGrant};
 use base::{Items, NoMemory};
-use permission_doc::Terms;
+use policy_doc::permission_doc::Terms;
 use std::alloc::Global;
 use std::hash::RandomState;
 use std::marker::Model;

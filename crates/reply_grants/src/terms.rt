@@ -1,7 +1,7 @@
 ghost use Rattle.std.specs.Prelude.{◌≡◌};
 ghost use Rattle.reply_grants.specs.Grants as grants;
 
-use permission_doc::Terms;
+use policy_doc::permission_doc::Terms;
 
 /// Whether one response more may pass on these terms, after so many responses and so many milliseconds.
 pub(crate) fn allow(terms: Terms, count: u64, age: u64) -> bool

@@ -14,7 +14,7 @@ use Rattle.session_conn.specs.declared.output.Output.{Output}
 use Rattle.session_conn.specs.declared.output.Stall.{Stall}
 use Rattle.session_plan.specs.declared.stage.Stage.{Stage}
 use Rattle.session_plan.specs.declared.stage.Stage.TheVariants as stage
-use Rattle.session.specs.declared.direct.Direct.{Direct}
+use Rattle.script.specs.declared.sessions.direct.Direct.{Direct}
 use Rattle.session_conn.specs.declared.drain.Written.{Written}
 use Rattle.session_conn.specs.declared.drain.Written.TheVariants.{All, Closes, Short}
 use Rattle.session_conn.specs.Calls.{Connection, IsNothing, IsRead, IsServedAt, IsServed, IsDrain, IsDrainIf, IsDrainedAt, IsDrained, IsQuiet, IsClosing, IsEnded, Given, nothing, stage_closed, stall_closed, undrained, unless_closed}

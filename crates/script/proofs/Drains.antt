@@ -5,7 +5,7 @@ use Rattle.std.proofs.Math.Seq.{drop-cons}
 use Rattle.std.proofs.Math.ListN.{drop_of_length-le}
 use Rattle.script.specs.Server.{Serving}
 use Rattle.script.specs.declared.client.Client.{Client}
-use Rattle.script_text.specs.declared.lines.ClientLine.{ClientLine}
+use Rattle.lines.specs.declared.script_text.lines.ClientLine.{ClientLine}
 use Rattle.script.specs.Play.{ClientEffect, Effect, effect, reached, beside, done_to, client_line_effect, drain_effect, drained, done_in, IsClientEffect, IsEffect}
 
 -- what is left to come, behind what is printed and the connections that are done, is what all comes to

@@ -4,11 +4,11 @@ use Rattle.std.specs.Prelude.{is_some}
 use Rattle.std.specs.Option.{option_map}
 use Rattle.std.proofs.lemmas.List.{length-drop}
 use Rattle.world.specs.World.{World, advanced}
-use Rattle.world_deliveries.specs.Sessions.{session_of, with_session, drained}
+use Rattle.world_sessions.specs.deliveries.Sessions.{session_of, with_session, drained}
 use Rattle.world.specs.Transition.{transition, taken, in_session, numbered}
 use Rattle.hub.specs.History.{State, is_history_full, remembered}
 use Rattle.world.specs.Shown.{waiting_in, waiting_of}
-use Rattle.world_deliveries.specs.declared.session.Session.{Session}
+use Rattle.world_sessions.specs.declared.deliveries.session.Session.{Session}
 use Rattle.events.specs.declared.event.Command.TheVariants as command
 use Rattle.events.specs.declared.answer.Outcome.{Outcome}
 use Rattle.events.specs.declared.refusal.HubRefusal.{HubRefusal}

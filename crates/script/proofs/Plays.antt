@@ -7,10 +7,10 @@ use Rattle.policy_doc.specs.Document.{builtin_doc}
 use Rattle.script.specs.Server.{Serving, opening}
 use Rattle.devices.specs.Device.{AppendsFront}
 use Rattle.script.specs.declared.client.Client.{Client}
-use Rattle.script_text.specs.declared.lines.Line.{Line}
-use Rattle.script_text.specs.declared.lines.Progress.{Progress}
-use Rattle.script_text.specs.declared.lines.Progress.TheVariants.{Head}
-use Rattle.script_text.specs.Lines.{line_of, progress_after}
+use Rattle.lines.specs.declared.script_text.lines.Line.{Line}
+use Rattle.lines.specs.declared.script_text.lines.Progress.{Progress}
+use Rattle.lines.specs.declared.script_text.lines.Progress.TheVariants.{Head}
+use Rattle.lines.specs.script_text.Lines.{line_of, progress_after}
 use Rattle.script.specs.Play.{Effect, Played, stops_or, line_and_drains, played, output_of, lines_of, IsEffect}
 
 -- what was written, and what is left to come behind it, is all there is to come

@@ -2,7 +2,7 @@
 use Rattle.std.proofs.Common.{◌≡◌, ◌∙◌, ◌∷◌, [], ℕ, List, Bool, true, false, Option, Some, None, Result, Ok, Err, inl, inr, cond, ap, sym, refl}
 use Rattle.wire_read.specs.declared.frame.Frame.{Frame}
 use Rattle.hub.specs.History.{State}
-use Rattle.session.specs.Accounts.{AreSteps}
+use Rattle.script.specs.sessions.Accounts.{AreSteps}
 use Rattle.events.specs.declared.event.Event.{Event}
 use Rattle.events.specs.declared.event.Command.TheVariants as command
 use Rattle.events.specs.declared.answer.Entry.{Entry}

@@ -2,3 +2,4 @@ pub mod Fault
 pub mod Server
 pub mod Session
 pub mod Play
+pub mod sessions

@@ -5,7 +5,7 @@ use Rattle.base.specs.Pieces.{pieces_of}
 use Rattle.policy_doc.specs.Document.{builtin_doc}
 use Rattle.policy_doc.specs.declared.document.PolicyDoc.{PolicyDoc}
 use Rattle.wire_write.specs.Texts.{info_line}
-use Rattle.connect_opts.specs.Info.{info_text}
+use Rattle.wire_write.specs.connect_opts.Info.{info_text}
 use Rattle.world.specs.Shown.{waiting_of}
 use Rattle.hub.specs.declared.hub.Caps.{Caps}
 use Rattle.events.specs.declared.answer.Entry.{Entry}
@@ -14,19 +14,19 @@ use Rattle.session_conn.specs.Calls.{new_connection}
 use Rattle.session_plan.specs.Replies.{is_closed, is_connected}
 use Rattle.script.specs.Server.{Serving, opening, with_policy, with_caps, installed}
 use Rattle.script.specs.Session.{Call, bytes_call, drain_call, end_call}
-use Rattle.reload.specs.Reload.{prepared}
-use Rattle.reload.specs.Fault.{fault_line}
-use Rattle.reload.specs.declared.fault.ReloadFault.{ReloadFault}
-use Rattle.script_text.specs.Lines.{line_of, progress_after}
-use Rattle.script_text.specs.Output.{shown_line, closed_line, refused_line, full_line}
-use Rattle.reload_lines.specs.Reloads.{reload_text}
+use Rattle.policy_text.specs.reload.Reload.{prepared}
+use Rattle.policy_text.specs.reload.Fault.{fault_line}
+use Rattle.policy_text.specs.declared.reload.fault.ReloadFault.{ReloadFault}
+use Rattle.lines.specs.script_text.Lines.{line_of, progress_after}
+use Rattle.lines.specs.script_text.Output.{shown_line, closed_line, refused_line, full_line}
+use Rattle.lines.specs.reload_lines.Reloads.{reload_text}
 use Rattle.script.specs.declared.client.Client.{Client}
-use Rattle.script_text.specs.declared.lines.Line.{Line}
-use Rattle.script_text.specs.declared.lines.Line.TheVariants as line
-use Rattle.script_text.specs.declared.lines.ClientLine.{ClientLine}
-use Rattle.script_text.specs.declared.lines.ClientLine.TheVariants.{Sends, Holds, Frees, Ends}
-use Rattle.script_text.specs.declared.lines.Progress.{Progress}
-use Rattle.script_text.specs.declared.lines.Progress.TheVariants.{Head, Capped, Body}
+use Rattle.lines.specs.declared.script_text.lines.Line.{Line}
+use Rattle.lines.specs.declared.script_text.lines.Line.TheVariants as line
+use Rattle.lines.specs.declared.script_text.lines.ClientLine.{ClientLine}
+use Rattle.lines.specs.declared.script_text.lines.ClientLine.TheVariants.{Sends, Holds, Frees, Ends}
+use Rattle.lines.specs.declared.script_text.lines.Progress.{Progress}
+use Rattle.lines.specs.declared.script_text.lines.Progress.TheVariants.{Head, Capped, Body}
 
 -- the line of what a connection was sent, if it was sent anything
 abbrev pub shown_if : ℕ → List ℕ → List ℕ

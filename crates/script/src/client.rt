@@ -3,9 +3,9 @@ ghost use Rattle.std.specs.Prelude.{◌≡◌, ◌++◌, false, None, IfOk, OnOk
 ghost use Rattle.script.specs.Play.{shown_if, printed_by, end_effect, is_pending, enough_takes, pending_effect, takes, IsClientEffect, IsClientEffectIf};
 
 use crate::server::Server;
+use crate::sessions::{Conn, Output};
 use base::NoMemory;
-use script_text::{ClientLine, write_closed, write_full, write_shown};
-use session::{Conn, Output};
+use lines::script_text::{ClientLine, write_closed, write_full, write_shown};
 use std::alloc::Global;
 
 /// An open connection.

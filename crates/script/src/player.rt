@@ -3,7 +3,7 @@ ghost use Rattle.std.specs.Prelude.{◌≡◌, ◌≤◌, List, IfOk, OnOk, nat_
 ghost use Rattle.std.specs.List.{position_or_len};
 ghost use Rattle.std.specs.Io.KnownBytes.{Appends};
 ghost use Rattle.script.specs.declared.client.Client.{Client};
-ghost use Rattle.script_text.specs.declared.lines.Progress.{Progress};
+ghost use Rattle.lines.specs.declared.script_text.lines.Progress.{Progress};
 ghost use Rattle.script.specs.Play.{drained, done_in, is_open, with_client, caps_effect, line_effect, still_open, line_and_drains, IsEffect, output_of};
 ghost use Rattle.script.specs.Server.{Serving};
 ghost use Rattle.devices.specs.Device.{AppendsFront};
@@ -16,8 +16,8 @@ use crate::server::Server;
 use base::{NoMemory, Pieces};
 use devices::{Sink, write_all};
 use hub::Caps;
+use lines::script_text::{ClientLine, Line, Progress, read_line, write_refused, write_shown};
 use policy_doc::Policy;
-use script_text::{ClientLine, Line, Progress, read_line, write_refused, write_shown};
 use std::alloc::Global;
 use std::hash::RandomState;
 

@@ -1,7 +1,7 @@
 // The policies of a script: the one that it begins with, and those that come into force later (docs/SCRIPT.md).
 ghost use Rattle.std.specs.Prelude.{◌≡◌, ◌++◌, List, codes, false, IfOk, OnOk};
-ghost use Rattle.reload.specs.Fault.{fault_line, is_memory};
-ghost use Rattle.reload.specs.Reload.{prepared};
+ghost use Rattle.policy_text.specs.reload.Fault.{fault_line, is_memory};
+ghost use Rattle.policy_text.specs.reload.Reload.{prepared};
 ghost use Rattle.script.specs.declared.client.Client.{Client};
 ghost use Rattle.script.specs.Play.{policy_effect, policy_line_effect, reload_effect, reload_told, IsEffect};
 ghost use Rattle.script.specs.Server.{installed};
@@ -9,9 +9,9 @@ ghost use Rattle.script.specs.Server.{installed};
 use crate::server::Server;
 use base::NoMemory;
 use hub::Ready;
-use reload::{ReloadFault, prepare, read_valid_policy};
-use reload_lines::write_reload;
-use script_text::{Progress, write_full, write_refused};
+use lines::reload_lines::write_reload;
+use lines::script_text::{Progress, write_full, write_refused};
+use policy_text::reload::{ReloadFault, prepare, read_valid_policy};
 use std::alloc::Global;
 
 /// Sets a policy in the place of the built-in one, or prints the line of its fault.

@@ -5,10 +5,10 @@ ghost use Rattle.session_plan.specs.Replies.{is_closed};
 ghost use Rattle.script.specs.Server.{opened, opening, with_policy, with_caps, installed, IsNextWord};
 ghost use Rattle.script.specs.Session.{bytes_call, drain_call, end_call, is_memory_stall, IsCall};
 
+use crate::sessions::{Conn, Direct, Output, Stall, Words};
 use base::NoMemory;
 use hub::{Answer, Caps, Command, Event, Hub, HubRefusal, Ready};
 use policy_doc::Policy;
-use session::{Conn, Direct, Output, Stall, Words};
 use std::alloc::Global;
 use std::collections::VecDeque;
 use std::hash::RandomState;

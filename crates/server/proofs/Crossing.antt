@@ -5,10 +5,10 @@ use denote.Param.Send.{IsSync, sendable, recorded_sync, struct_sync, shr_sync}
 use denote.Struct.Declared.{shape}
 use Rattle.std.proofs.alloc.Global.TheSendSync as global
 use Rattle.std.specs.declared.sync.ledger.Ledger.{Ghosts as Ledgers}
-use Rattle.shared_desk.specs.declared.desk.Run.{Ghosts as Runs}
-use Rattle.server_mail.proofs.server_state.ServerState.TheSendSync as state
+use Rattle.shared_hub.specs.declared.desk.desk.Run.{Ghosts as Runs}
+use Rattle.server_state.proofs.mail.server_state.ServerState.TheSendSync as state
 use Rattle.server.specs.contracts.threads.Common as common
-use Rattle.server_reloads.proofs.installs.Installs.TheSendSync as installs
+use Rattle.server.proofs.reloads.installs.Installs.TheSendSync as installs
 use Rattle.shared_hub.proofs.Crossing.{shared_sync}
 
 pub common_sync : (κ : NamedLft) (L R : RattleType) (r : Runs L.Denot) (l : Ledgers L.Denot) → IsSync R → IsSync (common.the_row κ L R r l)

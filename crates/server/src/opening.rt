@@ -2,16 +2,16 @@
 ghost use Rattle.std.specs.Prelude.{◌≡◌, IfOk};
 ghost use Rattle.server.specs.Serve.{AreServable};
 
+use crate::policy_source::Policies;
+use crate::reloads::{NextPolicy, next_policy, tell_refused, tell_warnings};
 use crate::settings::Settings;
-use hub::{Caps, Hub};
 use mio::net::TcpListener;
 use policy_ready::Ready;
-use policy_source::Policies;
-use server_fault::Fault;
 use server_log::ServerLog;
-use server_mail::Limits;
-use server_prints::Prints;
-use server_reloads::{NextPolicy, next_policy, tell_refused, tell_warnings};
+use server_log::prints::Prints;
+use server_port::fault::Fault;
+use server_state::mail::Limits;
+use shared_hub::{Caps, Hub};
 use std::alloc::{AllocGlobal, Global};
 use std::hash::RandomState;
 use std::io;

@@ -1,14 +1,14 @@
 //! The threads of a server.
 use crate::opening::Opened;
+use crate::policy_source::Policies;
+use crate::reloads::{Installs, Reloads};
 use mio::net::TcpListener;
-use policy_source::Policies;
-use server_fault::{ServeFault, least};
-use server_gates::Gate;
 use server_log::ServerLog;
+use server_log::prints::Prints;
 use server_loop::{Access, Start, WAKER, Worker};
-use server_mail::{Flags, Mailbox, ServerState, millis, open_mailbox};
-use server_prints::Prints;
-use server_reloads::{Installs, Reloads};
+use server_port::fault::{ServeFault, least};
+use server_port::gates::Gate;
+use server_state::mail::{Flags, Mailbox, ServerState, millis, open_mailbox};
 use session_conn::Words;
 use shared_hub::{Run, SharedHub};
 use std::alloc::Global;

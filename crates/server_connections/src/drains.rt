@@ -3,7 +3,7 @@ ghost use Rattle.std.specs.Prelude.{◌≡◌, ◌≢◌};
 
 use crate::connections::Connections;
 use server_socket::Written;
-use server_turns::Turn;
+use server_socket::turns::Turn;
 
 /// What became of a connection that is written to.
 #[derive(Clone, Copy, Debug)]

@@ -3,7 +3,7 @@ ghost use Rattle.std.specs.Prelude.{◌≡◌, false};
 
 use crate::connections::Connections;
 use server_socket::is_fresh;
-use server_turns::Turn;
+use server_socket::turns::Turn;
 
 /// By how many the entries of `fresh` may be more than twice the connections.
 const SPARE: usize = 64;
@@ -18,7 +18,7 @@ pub struct Fresh {
 impl Connections {
     ghost use Rattle.std.specs.Prelude.{IfSome, true};
     ghost use Rattle.slab.specs.Slab.{get};
-    ghost use Rattle.server_turns.specs.Turns.{is_over};
+    ghost use Rattle.server_socket.specs.turns.Turns.{is_over};
     ghost use Rattle.server_socket.specs.Fresh.{IsBounded};
     ghost use Rattle.server_connections.specs.Work.{is_still_fresh};
 

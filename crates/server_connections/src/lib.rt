@@ -1,5 +1,5 @@
-//! The connections of a worker: a table of them by keys that it picks, and queues of those that have some kind of work. A
-//! call takes a look-up or two, but for those that walk over a queue or over all, and say so.
+//! The connections of a worker: a table of them by keys that it picks, and queues of those that have some kind of work. It
+//! knows no hub.
 #![tactic(auto)]
 
 mod connections;

@@ -2,7 +2,7 @@
 ghost use Rattle.std.specs.Prelude.{◌≡◌, ◌≢◌};
 
 use crate::connections::Connections;
-use server_turns::Turn;
+use server_socket::turns::Turn;
 use std::mem;
 
 /// What is to be done with what a connection's client sends.

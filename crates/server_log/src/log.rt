@@ -1,14 +1,14 @@
+use crate::lines::{
+    Denial, Invalid, LogLevel, Notice, Rate, Slowness, Unrouted, What, line_of, what_of,
+};
 use crate::noted::{InvalidTexts, Noted};
+use crate::prints::Prints;
 use base::{Copying, SharedText};
 use bytes::Bytes;
 use events::{Command, Entry, Item, Outcome, Removed};
-use permission_doc::PermEntry;
 use permissions::Verdict;
+use policy_doc::permission_doc::PermEntry;
 use policy_ready::{Ready, User};
-use server_lines::{
-    Denial, Invalid, LogLevel, Notice, Rate, Slowness, Unrouted, What, line_of, what_of,
-};
-use server_prints::Prints;
 use std::alloc::Global;
 use std::io;
 use std::net::SocketAddr;

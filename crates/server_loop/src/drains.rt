@@ -1,10 +1,10 @@
 //! What is written to connections, and when.
 use crate::worker::Worker;
 use server_connections::Drained;
-use server_gates::Gate;
-use server_turns::Turn;
+use server_port::Run;
+use server_port::gates::Gate;
+use server_socket::turns::Turn;
 use session_conn::Words;
-use shared_hub::Run;
 use std::sync::Wait;
 use std::time::Clock;
 

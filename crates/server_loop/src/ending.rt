@@ -1,13 +1,13 @@
 //! How connections end, and how a worker does.
 use crate::worker::Worker;
 use mio::Events;
-use server_gates::Gate;
 use server_log::{Slowness, What};
-use server_mail::millis;
-use server_pacing::Slice;
-use server_turns::Turn;
+use server_port::Run;
+use server_port::gates::Gate;
+use server_socket::turns::Turn;
+use server_state::mail::millis;
+use server_state::pacing::Slice;
 use session_conn::Words;
-use shared_hub::Run;
 use std::sync::Wait;
 use std::time::{Clock, Duration};
 use wire_write::ServerError;

@@ -1,6 +1,8 @@
-//! One worker of a server: it takes what others have left for it, reads from its sockets, and writes to them.
+//! One worker of a server: it takes what others have left for it, reads from its sockets, and writes to them. It reaches the
+//! hub through its port alone.
 #![tactic(auto)]
 
+pub mod accepting;
 mod drains;
 mod ending;
 mod mail;

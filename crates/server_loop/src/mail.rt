@@ -1,9 +1,9 @@
 //! What workers leave in each other's mailboxes.
 use crate::worker::Worker;
-use server_gates::Gate;
-use server_mail::{Arrival, Intake, Mail, owner_of};
+use server_port::Run;
+use server_port::gates::Gate;
+use server_state::mail::{Arrival, Intake, Mail, owner_of};
 use session_conn::Words;
-use shared_hub::Run;
 use std::mem;
 use std::sync::Wait;
 use std::time::Clock;

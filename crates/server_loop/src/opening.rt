@@ -1,10 +1,10 @@
 //! How connections begin, and which of them give way to new ones.
+use crate::accepting::Accepted;
 use crate::worker::Worker;
-use server_accepting::Accepted;
-use server_gates::Gate;
-use server_mail::Arrival;
+use server_port::Run;
+use server_port::gates::Gate;
+use server_state::mail::Arrival;
 use session_conn::Words;
-use shared_hub::Run;
 use std::sync::Wait;
 use std::time::Clock;
 

@@ -1,13 +1,13 @@
 //! The rounds of a worker, from its start to its end.
+use crate::accepting::LISTENER;
 use crate::worker::{WAKER, Worker};
 use mio::Events;
 use mio::event::Event;
-use server_accepting::LISTENER;
-use server_fault::ServeFault;
-use server_gates::Gate;
-use server_pacing::Slice;
+use server_port::Run;
+use server_port::fault::ServeFault;
+use server_port::gates::Gate;
+use server_state::pacing::Slice;
 use session_conn::Words;
-use shared_hub::Run;
 use std::io;
 use std::sync::Wait;
 use std::time::{Clock, Duration};

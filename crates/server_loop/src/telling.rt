@@ -1,11 +1,11 @@
 //! What a worker tells the server's operator.
 use crate::worker::Worker;
 use events::{Answer, Outcome};
-use server_gates::Gate;
 use server_log::{Slowness, What};
-use server_turns::Turn;
+use server_port::Run;
+use server_port::gates::Gate;
+use server_socket::turns::Turn;
 use session_conn::Words;
-use shared_hub::Run;
 use std::sync::Wait;
 use std::time::Clock;
 

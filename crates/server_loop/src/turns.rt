@@ -1,14 +1,13 @@
 //! The turns of connections: which comes next, what it gives, and where its frames wait.
 use crate::worker::Worker;
 use server_connections::Reads;
-use server_gates::Gate;
 use server_log::What;
-use server_pacing::{Slice, batch};
-use server_port::Why;
+use server_port::gates::Gate;
+use server_port::{Run, Why};
 use server_socket::ConnectionTurn;
-use server_turns::Turn;
+use server_socket::turns::Turn;
+use server_state::pacing::{Slice, batch};
 use session_conn::{Stall, Words};
-use shared_hub::Run;
 use std::mem;
 use std::sync::Wait;
 use std::time::Clock;

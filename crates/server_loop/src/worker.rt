@@ -1,13 +1,12 @@
+use crate::accepting::Acceptor;
 use mio::net::TcpListener;
 use mio::{Poll, Token};
-use server_accepting::Acceptor;
 use server_connections::Connections;
-use server_gates::Gate;
-use server_mail::{Mail, OutgoingMail, ServerState};
-use server_pacing::{PIECE, Slice};
-use server_port::{Access, ServerPort};
+use server_port::gates::Gate;
+use server_port::{Access, Run, ServerPort, SharedHub};
+use server_state::mail::{Mail, OutgoingMail, ServerState};
+use server_state::pacing::{PIECE, Slice};
 use session_conn::Words;
-use shared_hub::{Run, SharedHub};
 use std::alloc::Global;
 use std::sync::Wait;
 

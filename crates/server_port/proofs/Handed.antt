@@ -3,7 +3,7 @@ use Rattle.std.proofs.Common.{◌≡◌, ◌<◌, ◌≤◌, ◌+◌, ◌*◌, �
 use Rattle.std.proofs.lemmas.List.{length-take-le, take_all}
 use Rattle.events.specs.Messages.{Message}
 use Rattle.events.specs.declared.answer.Entry.{Entry}
-use Rattle.shared_runs.specs.Runs.{Came, Draws, IsRun, Offers}
+use Rattle.shared_waits.specs.runs.Runs.{Came, Draws, IsRun, Offers}
 use Rattle.server_port.specs.Histories.{once}
 use Rattle.server_port.proofs.Holds.{last_of, run_counts}
 

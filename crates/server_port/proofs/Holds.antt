@@ -7,8 +7,8 @@ use Rattle.events.specs.declared.answer.Entry.{Entry}
 use Rattle.events.specs.declared.refusal.PublishRefusal.TheVariants.{Held}
 use Rattle.events.specs.declared.run.RunEnd.{RunEnd}
 use Rattle.events.specs.declared.run.RunEnd.TheVariants as run
-use Rattle.server_gates.specs.declared.gate.Point.{Point}
-use Rattle.server_gates.specs.declared.gate.Point.TheVariants.{Answered}
+use Rattle.server_port.specs.declared.gates.gate.Point.{Point}
+use Rattle.server_port.specs.declared.gates.gate.Point.TheVariants.{Answered}
 use Rattle.server_log.specs.Noting.{IsAnswerNoted}
 use Rattle.server_log.specs.declared.noted.Noted.{Noted}
 use Rattle.server_port.specs.Ends.{goes_on}
@@ -16,8 +16,8 @@ use Rattle.server_port.specs.Holds.{AreAnswersNoted, AreHolds, AreHoldsPassed, I
 use Rattle.server_port.specs.Points.{ArePassed, Passes}
 use Rattle.server_port.specs.declared.course.Why.{Why}
 use Rattle.server_port.proofs.Passing.{passed_once_more, passed_then}
-use Rattle.shared_runs.specs.Runs.{Came, Draws, IsRun, Offers, StaysBelow, told_end}
-use Rattle.shared_runs.proofs.Runs.{run_along}
+use Rattle.shared_waits.specs.runs.Runs.{Came, Draws, IsRun, Offers, StaysBelow, told_end}
+use Rattle.shared_waits.proofs.runs.Runs.{run_along}
 use Rattle.shared_hub.specs.Entering.{IsOfferedBy}
 
 -- ---- what is noted

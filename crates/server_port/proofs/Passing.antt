@@ -1,7 +1,7 @@
 -- Points that are passed one after the other.
 use Rattle.std.proofs.Common.{◌≡◌, ◌∙◌, ◌∷◌, ◌++◌, ◌+◌, ◌||◌, [], ℕ, Bool, List, not, refl, subst, sym, replicate}
 use Rattle.std.proofs.lemmas.List.{replicate_more}
-use Rattle.server_gates.specs.declared.gate.Point.{Point}
+use Rattle.server_port.specs.declared.gates.gate.Point.{Point}
 use Rattle.server_port.specs.Points.{ArePassed, Passes}
 
 pub one_passed : {G : Type 0} (passes : Passes G) (p : Point) (g d : G) (s v : Bool)

@@ -10,8 +10,8 @@ use Rattle.events.specs.declared.refusal.HubRefusal.TheVariants.{HistoryFull}
 use Rattle.events.specs.declared.refusal.PublishRefusal.TheVariants.{By, Held}
 use Rattle.events.specs.declared.run.RunEnd.{RunEnd}
 use Rattle.events.specs.declared.run.RunEnd.TheVariants as run
-use Rattle.shared_runs.specs.Runs.{Came, Draws, IsBack, IsRun, told_end}
-use Rattle.shared_runs.proofs.Runs.{Completes, completes_answered, completes_published, run_again, run_of_part, posted_run, posted_held}
+use Rattle.shared_waits.specs.runs.Runs.{Came, Draws, IsBack, IsRun, told_end}
+use Rattle.shared_waits.proofs.runs.Runs.{Completes, completes_answered, completes_published, run_again, run_of_part, posted_run, posted_held}
 use Rattle.shared_hub.specs.Entering.{IsOfferedBy, IsPostedBy}
 use Rattle.server_port.specs.Ends.{IsEnded, goes_on}
 

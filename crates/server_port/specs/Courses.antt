@@ -5,7 +5,7 @@ use Rattle.events.specs.declared.answer.Entry.{Entry}
 use Rattle.events.specs.declared.refusal.HubRefusal.{HubRefusal}
 use Rattle.events.specs.declared.refusal.PublishRefusal.{PublishRefusal}
 use Rattle.events.specs.declared.refusal.PublishRefusal.TheVariants.{By, Held}
-use Rattle.server_mail.specs.Work.{work}
+use Rattle.server_state.specs.mail.Work.{work}
 use Rattle.server_port.specs.declared.course.Course.{Course}
 use Rattle.server_port.specs.declared.course.Why.{Why}
 use Rattle.server_port.specs.declared.course.Why.TheVariants.{Receiver, Slow, Share}

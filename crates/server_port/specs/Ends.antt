@@ -6,7 +6,7 @@ use Rattle.events.specs.declared.refusal.PublishRefusal.TheVariants.{By}
 use Rattle.events.specs.Runs.{was_published}
 use Rattle.events.specs.declared.run.RunEnd.{RunEnd}
 use Rattle.events.specs.declared.run.RunEnd.TheVariants as run
-use Rattle.shared_runs.specs.Runs.{Came, IsBack, told_end}
+use Rattle.shared_waits.specs.runs.Runs.{Came, IsBack, told_end}
 use Rattle.shared_hub.specs.Entering.{IsOfferedBy}
 
 -- An event was offered once more, and the run ends with what came of it.

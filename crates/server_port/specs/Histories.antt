@@ -1,11 +1,11 @@
 -- When a port rotates the history.
 use Rattle.std.specs.Prelude.{ℕ, ◌+◌, ◌≡◌, ◌&&◌, Bool, true, false, Option, None, Some, nat_le}
 use Rattle.std.specs.Io.Iter.{u64_saturate}
-use Rattle.hub.specs.Segments.{HistoryPart, IsHistoryPart}
-use Rattle.server_history.specs.declared.kept.Look.{Look}
-use Rattle.server_history.specs.declared.kept.Added.{Added}
-use Rattle.server_history.specs.Bytes.{is_passed}
-use Rattle.server_history.specs.Rotating.{Rotating, failed, is_due, is_same, taken_over}
+use Rattle.shared_hub.specs.Segments.{HistoryPart, IsHistoryPart}
+use Rattle.server_state.specs.declared.history.kept.Look.{Look}
+use Rattle.server_state.specs.declared.history.kept.Added.{Added}
+use Rattle.server_state.specs.history.Bytes.{is_passed}
+use Rattle.server_state.specs.history.Rotating.{Rotating, failed, is_due, is_same, taken_over}
 
 -- It was rotated: what was handed out, a part of a history, is all that is still to be dropped. Or it could not be.
 abbrev pub IsHandedOut : Bool → Rotating → Rotating → Type 0

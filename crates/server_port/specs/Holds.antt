@@ -5,13 +5,13 @@ use Rattle.events.specs.declared.answer.Entry.{Entry}
 use Rattle.events.specs.declared.refusal.PublishRefusal.TheVariants.{By, Held}
 use Rattle.events.specs.declared.run.RunEnd.{RunEnd}
 use Rattle.events.specs.declared.run.RunEnd.TheVariants as run
-use Rattle.server_gates.specs.declared.gate.Point.{Point}
-use Rattle.server_gates.specs.declared.gate.Point.TheVariants.{FrameRead, Answered}
+use Rattle.server_port.specs.declared.gates.gate.Point.{Point}
+use Rattle.server_port.specs.declared.gates.gate.Point.TheVariants.{FrameRead, Answered}
 use Rattle.server_log.specs.Noting.{IsAnswerNoted, noted_stop}
 use Rattle.server_log.specs.declared.noted.Noted.{Noted}
 use Rattle.server_port.specs.Points.{ArePassed, Passes, answered_if}
 use Rattle.server_port.specs.declared.course.Why.{Why}
-use Rattle.shared_runs.specs.Runs.{Came, Draws, IsRun, Offers, told_end}
+use Rattle.shared_waits.specs.runs.Runs.{Came, Draws, IsRun, Offers, told_end}
 
 -- ---- what is noted
 

@@ -3,3 +3,4 @@ pub mod Histories
 pub mod Ends
 pub mod Points
 pub mod Holds
+pub mod fault

@@ -1,7 +1,7 @@
 -- The points of its gate that a port passes.
 use Rattle.std.specs.Prelude.{◌≡◌, ◌∷◌, ◌||◌, [], List, Bool, Option, None, Some, not}
-use Rattle.server_gates.specs.declared.gate.Point.{Point}
-use Rattle.server_gates.specs.declared.gate.Point.TheVariants.{FrameRead, Answered}
+use Rattle.server_port.specs.declared.gates.gate.Point.{Point}
+use Rattle.server_port.specs.declared.gates.gate.Point.TheVariants.{FrameRead, Answered}
 use Rattle.server_port.specs.declared.course.Why.{Why}
 
 -- a gate, a point, whether the gate lets it pass, and the gate then

@@ -2,15 +2,15 @@
 ghost use Rattle.std.specs.Prelude.{◌≡◌};
 
 use crate::course::Why;
+use crate::gates::{Gate, Point};
 use crate::port::ServerPort;
 use crate::runs::goes_on;
 use events::{
     Answer, Event, HubRefusal, InvalidFrame, Message, Port, PublishRefusal, RunEnd, Words,
 };
-use server_gates::{Gate, Point};
-use server_history::{Added, Look};
+use server_state::history::{Added, Look};
 use shared_hub::Run;
-use shared_runs::Posts;
+use shared_waits::runs::Posts;
 use std::collections::VecDeque;
 use std::sync::Wait;
 
@@ -19,7 +19,7 @@ impl<L: Run, R: Wait, G: Gate + Drop> ServerPort<'_, L, R, G> {
     ghost use Rattle.events.specs.Offers.{IsOffered};
     ghost use Rattle.events.specs.declared.refusal.HubRefusal.TheVariants.{HistoryFull};
     ghost use Rattle.events.specs.declared.refusal.PublishRefusal.TheVariants.{By};
-    ghost use Rattle.server_history.specs.Bytes.{IsCounted, own};
+    ghost use Rattle.server_state.specs.history.Bytes.{IsCounted, own};
     ghost use Rattle.server_port.specs.Courses.{entered, followed, offered, refused};
     ghost use Rattle.server_port.specs.Histories.{falls_due, once, passed, tried, was_same};
     ghost use Rattle.shared_hub.specs.Entering.{IsAnswered, IsPostedBy};
@@ -218,7 +218,7 @@ impl<L: Run, R: Wait, G: Gate + Drop> Port for ServerPort<'_, L, R, G> {
     ghost use Rattle.server_port.specs.Holds.{AreHoldsPassed, IsRunNoted, IsWhy, held_back};
     ghost use Rattle.server_port.specs.declared.course.Why.TheVariants.{Share};
     ghost use Rattle.server_port.specs.Points.{ArePassed, offer_points};
-    ghost use Rattle.server_gates.specs.declared.gate.Point.TheVariants.{Answered, FrameRead};
+    ghost use Rattle.server_port.specs.declared.gates.gate.Point.TheVariants.{Answered, FrameRead};
     ghost use Rattle.server_log.specs.Noting.{IsNoted, IsOfferNoted};
     ghost use Rattle.shared_hub.specs.Entering.{IsAnswered, IsOfferedBy, IsPostedBy};
 

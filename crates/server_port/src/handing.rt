@@ -1,18 +1,17 @@
 //! How a port counts what entries keep, and rotates the history.
 ghost use Rattle.std.specs.Prelude.{◌≡◌};
 
+use crate::gates::Gate;
 use crate::port::ServerPort;
 use events::Answer;
-use hub::Segment;
-use server_gates::Gate;
-use server_history::{Added, Look};
-use shared_hub::Run;
+use server_state::history::{Added, Look};
+use shared_hub::{Run, Segment};
 use std::sync::Wait;
 
 impl<L: Run, R: Wait, G: Gate + Drop> ServerPort<'_, L, R, G> {
     ghost use Rattle.std.specs.Prelude.{◌+◌, ◌≤◌, ℕ, is_some, true};
-    ghost use Rattle.server_history.specs.Bytes.{IsCounted, is_passed, own};
-    ghost use Rattle.server_history.specs.Rotating.{is_due, taken_over};
+    ghost use Rattle.server_state.specs.history.Bytes.{IsCounted, is_passed, own};
+    ghost use Rattle.server_state.specs.history.Rotating.{is_due, taken_over};
     ghost use Rattle.server_port.specs.Histories.{IsHandedOut, IsTried, falls_due, once, passed, tried, was_same};
 
     /// Takes over a segment that was handed out: its entries are all that is still to be dropped.

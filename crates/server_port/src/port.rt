@@ -1,10 +1,10 @@
 ghost use Rattle.std.specs.Prelude.{◌≡◌};
 
 use crate::course::{Course, Why};
-use server_gates::{Gate, Point};
-use server_history::{Kept, Rotation};
+use crate::gates::{Gate, Point};
 use server_log::Noted;
-use server_mail::{OutgoingMail, ServerState};
+use server_state::history::{Kept, Rotation};
+use server_state::mail::{OutgoingMail, ServerState};
 use shared_hub::{Run, RunContext, Seat, SharedHub};
 use std::alloc::Global;
 use std::mem;
@@ -60,9 +60,9 @@ impl<L: Run, R: Wait, G: Gate + Drop> Drop for ServerPort<'_, L, R, G> {
 
 impl<'a, L: Run, R: Wait, G: Gate + Drop> ServerPort<'a, L, R, G> {
     ghost use Rattle.std.specs.Prelude.{◌≡◌, ◌||◌, ◌<◌, ◌≤◌, ◌+◌, Bool, None, Option, false, max, nat_eq, not};
-    ghost use Rattle.server_history.specs.declared.kept.Added.{Added};
-    ghost use Rattle.server_history.specs.Bytes.{IsCounted};
-    ghost use Rattle.server_history.specs.Rotating.{but_last, fresh};
+    ghost use Rattle.server_state.specs.declared.history.kept.Added.{Added};
+    ghost use Rattle.server_state.specs.history.Bytes.{IsCounted};
+    ghost use Rattle.server_state.specs.history.Rotating.{but_last, fresh};
     ghost use Rattle.server_port.specs.Histories.{once, passed, tried};
     ghost use Rattle.server_port.specs.Points.{ArePassed, answered_if};
 

@@ -3,11 +3,11 @@ ghost use Rattle.std.specs.Prelude.{◌≡◌};
 ghost use Rattle.server_port.specs.Ends.{goes_on};
 
 use crate::course::Why;
+use crate::gates::{Gate, Point};
 use crate::port::ServerPort;
 use events::{Answer, Event, HubRefusal, Message, PublishRefusal, RunEnd, Words};
-use server_gates::{Gate, Point};
 use shared_hub::{Run, size_of};
-use shared_runs::{Posts, was_published, word_of};
+use shared_waits::runs::{Posts, was_published, word_of};
 use std::collections::VecDeque;
 use std::mem;
 use std::sync::Wait;
@@ -37,9 +37,9 @@ impl<L: Run, R: Wait, G: Gate + Drop> ServerPort<'_, L, R, G> {
     ghost use Rattle.events.specs.declared.answer.Entry.{Entry};
     ghost use Rattle.events.specs.declared.refusal.PublishRefusal.TheVariants.{Held};
     ghost use Rattle.events.specs.declared.run.RunEnd.TheVariants.{Stopped};
-    ghost use Rattle.shared_runs.specs.Runs.{IsRun, StaysBelow, word_of};
+    ghost use Rattle.shared_waits.specs.runs.Runs.{IsRun, StaysBelow, word_of};
     ghost use Rattle.server_port.specs.Courses.{all_followed, followed};
-    ghost use Rattle.server_gates.specs.declared.gate.Point.TheVariants.{Answered};
+    ghost use Rattle.server_port.specs.declared.gates.gate.Point.TheVariants.{Answered};
     ghost use Rattle.server_log.specs.Noting.{IsAnswerNoted};
     ghost use Rattle.server_port.specs.Ends.{IsEnded, IsOfferedAgain};
     ghost use Rattle.server_port.specs.Holds.{AreAnswersNoted, IsEndNoted, IsHoldPassed, IsRunNoted, IsWhy, answer_points, end_points, held_back, read_points};

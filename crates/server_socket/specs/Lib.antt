@@ -2,3 +2,4 @@ pub mod Blocked
 pub mod Connections
 pub mod Queues
 pub mod Fresh
+pub mod turns

@@ -1,10 +1,10 @@
 //! Fresh clients, of which no CONNECT was accepted: how much of theirs is kept.
 ghost use Rattle.std.specs.Prelude.{◌≡◌, false};
-ghost use Rattle.server_turns.specs.Turns.{is_over};
+ghost use Rattle.server_socket.specs.turns.Turns.{is_over};
 ghost use Rattle.server_socket.specs.Fresh.{IsBounded, is_fresh};
 
 use crate::connection::Connection;
-use server_turns::Turn;
+use crate::turns::Turn;
 use session_conn::Conn;
 use std::alloc::Global;
 use wire_write::ServerError;

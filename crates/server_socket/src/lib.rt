@@ -1,5 +1,5 @@
-//! A connection of a worker: its client with its socket, what is due to it, what may be done about it next, and the queues that
-//! it is in.
+//! A connection of a worker: its client with its socket, what is due to it, what may be done about it next, and the queues
+//! that it is in. It knows no other connection.
 #![tactic(auto)]
 
 mod blocked;
@@ -10,6 +10,7 @@ mod fresh;
 mod heard;
 mod queue;
 mod reading;
+pub mod turns;
 mod writing;
 
 pub use blocked::Blocked;

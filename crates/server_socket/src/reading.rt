@@ -4,9 +4,9 @@ ghost use Rattle.std.specs.Prelude.{◌≡◌, ◌<◌, length};
 use crate::connection::Connection;
 use crate::counted::Counted;
 use crate::heard::Heard;
+use crate::turns::{ReadContext, Turn};
 use devices::NonBlocking;
 use events::Port;
-use server_turns::{ReadContext, Turn};
 use session_conn::Words;
 
 /// The result of one turn of a connection.

@@ -2,9 +2,9 @@
 ghost use Rattle.std.specs.Prelude.{◌≡◌};
 
 use crate::connection::Connection;
+use crate::turns::Turn;
 use devices::NonBlocking;
 use events::Port;
-use server_turns::Turn;
 
 /// What comes next of a connection that is written to.
 #[derive(Clone, Copy, Debug, PartialEq, Eq)]

@@ -6,15 +6,15 @@ use Rattle.std.proofs.lemmas.List.{append-nil, get_or_default, take_all, take_mo
 use Rattle.subjects.specs.Subject.{Token}
 use Rattle.std.specs.Prelude.{codes}
 use Rattle.std.specs.Fmt.{decimal}
-use Rattle.service_subjects.specs.Names.{hex_of, is_on, number_of}
-use Rattle.service_subjects.proofs.Tokens.{from_on, number_of_decimal}
+use Rattle.service_exporter.specs.service_subjects.Names.{hex_of, is_on, number_of}
+use Rattle.service_exporter.proofs.service_subjects.Tokens.{from_on, number_of_decimal}
 use Rattle.service_exporter.specs.Routes.{Numbered, ends_by, if_lives, kept_route, living, lives, on_row, route_on}
-use Rattle.numbered_slots.specs.Slots.{entry_of, passes}
-use Rattle.numbered_slots.proofs.Places.{below_at, one_place, entries-append}
+use Rattle.stores.specs.numbered_slots.Slots.{entry_of, passes}
+use Rattle.stores.proofs.numbered_slots.Places.{below_at, one_place, entries-append}
 use Rattle.service_exporter.specs.Slots.{slot_number, held, standing_in, is_single, kept_in, is_in, kept_slot, LivesUntil, AreBelow, AreRising, IsAbsent, IsNowhere, IsPlaceOf, IsPlaceOn}
 use Rattle.service_exporter.specs.declared.route.NewRow.{NewRow}
 use Rattle.service_exporter.specs.declared.route.Route.{Route}
-use Rattle.exports.specs.declared.document.Row.{Row}
+use Rattle.policy_doc.specs.declared.exports.document.Row.{Row}
 use Rattle.service_exporter.specs.declared.slots.Slot.{Slot}
 
 -- ---- the slot of a subject

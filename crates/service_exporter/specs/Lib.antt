@@ -2,4 +2,5 @@ pub mod Routes
 pub mod Limit
 pub mod Slots
 pub mod Tally
-pub use Rattle.service_subjects.specs.Names
+pub use Rattle.service_exporter.specs.service_subjects.Names
+pub mod service_subjects

@@ -4,8 +4,8 @@ use Rattle.std.specs.Prelude.{◌+◌, ◌-◌, ◌++◌, ◌∷◌, ◌&&◌, �
 use Rattle.std.specs.List.{filter_map}
 use Rattle.std.specs.Option.{option_map}
 use Rattle.subjects.specs.Subject.{Token}
-use Rattle.service_subjects.specs.Names.{is_on}
-use Rattle.exports.specs.declared.document.Row.{Row}
+use Rattle.service_exporter.specs.service_subjects.Names.{is_on}
+use Rattle.policy_doc.specs.declared.exports.document.Row.{Row}
 use Rattle.service_exporter.specs.declared.route.NewRow.{NewRow}
 use Rattle.service_exporter.specs.declared.route.Route.{Route}
 

@@ -1,13 +1,13 @@
 -- Routes in slots by rising number, of which some are empty.
 use Rattle.std.specs.Prelude.{◌≡◌, ◌≢◌, ◌<◌, ◌≤◌, ℕ, Bool, true, false, List, Option, Some, None, length, slice_index_or}
 use Rattle.std.specs.Option.{option_map}
-use Rattle.numbered_slots.specs.Slots as slots
-use Rattle.numbered_slots.specs.Slots.{passes}
+use Rattle.stores.specs.numbered_slots.Slots as slots
+use Rattle.stores.specs.numbered_slots.Slots.{passes}
 use Rattle.subjects.specs.Subject.{Token}
-use Rattle.service_subjects.specs.Names.{is_on}
+use Rattle.service_exporter.specs.service_subjects.Names.{is_on}
 use Rattle.service_exporter.specs.Routes.{Numbered, lives, on_row}
 use Rattle.service_exporter.specs.declared.route.NewRow.{NewRow}
-use Rattle.exports.specs.declared.document.Row.{Row}
+use Rattle.policy_doc.specs.declared.exports.document.Row.{Row}
 use Rattle.service_exporter.specs.declared.route.Route.{Route}
 use Rattle.service_exporter.specs.declared.slots.Slot.{Slot}
 

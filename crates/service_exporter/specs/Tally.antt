@@ -1,6 +1,6 @@
 -- What is known of how many routes live.
 use Rattle.std.specs.Prelude.{◌≡◌, ◌≤◌, ◌+◌, ℕ, List, Option, length, if◌then◌else◌}
-use Rattle.numbered_slots.specs.Slots.{passes}
+use Rattle.stores.specs.numbered_slots.Slots.{passes}
 use Rattle.service_exporter.specs.Routes.{Numbered, living, lives}
 use Rattle.service_exporter.specs.declared.tally.Tally.{Tally}
 use Rattle.service_exporter.specs.declared.route.Route.{Route}

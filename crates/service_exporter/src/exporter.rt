@@ -54,7 +54,7 @@ impl Exporter {
     ghost use Rattle.service_exporter.specs.Routes.{no_routes};
 
     /// No routes.
-    #[tactic(auto, unfolding(numbered_slots::specs::Slots::AreRising, numbered_slots::specs::Slots::AreBelow))]
+    #[tactic(auto, unfolding(stores::specs::numbered_slots::Slots::AreRising, stores::specs::numbered_slots::Slots::AreBelow))]
     pub fn new(alloc: Global) -> Exporter
         ensures { result.exporter ≡ no_routes }
     {
@@ -89,7 +89,7 @@ impl Exporter {
     }
 
     /// Takes all routes out, and forgets the last number.
-    #[tactic(auto, unfolding(numbered_slots::specs::Slots::AreRising, numbered_slots::specs::Slots::AreBelow))]
+    #[tactic(auto, unfolding(stores::specs::numbered_slots::Slots::AreRising, stores::specs::numbered_slots::Slots::AreBelow))]
     pub fn clear(&mut self)
         ensures exporter { self.new.exporter ≡ no_routes }
         ensures room { self.old.room ≤ self.new.room }

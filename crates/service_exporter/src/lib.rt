@@ -1,4 +1,5 @@
-//! Response routes: on which subjects an exporter's services may answer the requests of other accounts, and for how long.
+//! Response routes of one exporter: on which subjects its services may answer the requests of other accounts, and for how
+//! long. It knows no other exporter and no message.
 //!
 //! A request that crosses into an exporting account opens a route. A response on the route's subject reaches the account
 //! that asked, on the reply of its request. A route is found by its number, without a map of texts: where it stands if no number
@@ -13,12 +14,13 @@ mod error;
 mod exporter;
 mod plain;
 mod route;
+pub mod service_subjects;
 mod slots;
 mod tally;
 
+pub use crate::service_subjects::route_subject;
 pub use error::RouteError;
 pub use exporter::Exporter;
-pub use exports::{ResponseTerms, Row};
 pub use plain::{PlainExporter, PlainRoute};
+pub use policy_doc::exports::{ResponseTerms, Row};
 pub use route::{NewRow, Route, ServiceRows};
-pub use service_subjects::route_subject;

@@ -3,7 +3,7 @@ ghost use Rattle.std.specs.Prelude.{◌≡◌, IfOk};
 
 use base::{Alike, Copying, NoMemory};
 use bytes::Bytes;
-use exports::{ResponseTerms, Row};
+use policy_doc::exports::{ResponseTerms, Row};
 use std::alloc::Global;
 use subjects::{Subject, SubjectRef};
 
@@ -20,7 +20,7 @@ pub struct NewRow {
 pub trait ServiceRows {
     ghost use Rattle.std.specs.Prelude.{◌≡◌, Option};
     ghost use Rattle.service_exporter.specs.declared.route.NewRow.{NewRow};
-    ghost use Rattle.exports.specs.declared.document.Row.{Row};
+    ghost use Rattle.policy_doc.specs.declared.exports.document.Row.{Row};
 
     /// The least row that is equal to a row of the earlier policy.
     ghost renewed: { Self → Row → Option NewRow };

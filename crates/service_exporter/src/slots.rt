@@ -6,10 +6,10 @@ ghost use Rattle.service_exporter.specs.Routes.{Numbered, ends_by, if_lives, kep
 ghost use Rattle.service_exporter.specs.Slots.{standing_in, AreRising, AreBelow, IsAbsent, IsPlaceOf, IsNowhere, IsPlaceOn, kept_slot};
 ghost use Rattle.service_exporter.specs.Tally.{IsTallied, IsLeft};
 
+use crate::service_subjects::{is_on, number_in};
 use crate::tally::Tally;
 use crate::{Route, ServiceRows};
 use base::{Copying, NoMemory};
-use service_subjects::{is_on, number_in};
 use std::alloc::Global;
 use subjects::SubjectRef;
 
@@ -48,8 +48,8 @@ fn place_of(slots: &[Slot], number: u64) -> Option<usize>
 impl Slot {
     ghost use Rattle.std.specs.Prelude.{if◌then◌else◌};
     ghost use Rattle.service_exporter.specs.declared.route.Route.{Route};
-    ghost use Rattle.service_subjects.specs.Names.{is_on};
-    ghost use Rattle.numbered_slots.specs.Slots.{passes};
+    ghost use Rattle.service_exporter.specs.service_subjects.Names.{is_on};
+    ghost use Rattle.stores.specs.numbered_slots.Slots.{passes};
     ghost use Rattle.service_exporter.specs.Slots.{is_single, kept_in, LivesUntil};
 
     /// The route that stands in it.

@@ -8,7 +8,7 @@ use Rattle.subjects.specs.Subject.{Token}
 use Rattle.service_exporter.specs.Routes.{Exporter, kept_of, no_routes, pruned_of, spent_of, with_route}
 use Rattle.service_exporter.specs.declared.route.NewRow.{NewRow}
 use Rattle.service_exporter.specs.declared.route.Route.{Route}
-use Rattle.exports.specs.declared.document.Row.{Row}
+use Rattle.policy_doc.specs.declared.exports.document.Row.{Row}
 
 -- the bytes of an account's name
 abbrev pub Name : Type 0

@@ -1,6 +1,6 @@
 -- What each call of a connection does (docs/GUARANTEE.md, "A connection").
 use Rattle.std.specs.Prelude.{◌≡◌, ◌⊎◌, ℕ, Bool, true, false, List, [], ◌++◌, Option, Some, None, Result, Ok, Err, if◌then◌else◌}
-use Rattle.connect_opts.specs.Info.{info_text}
+use Rattle.wire_write.specs.connect_opts.Info.{info_text}
 use Rattle.wire_read.specs.declared.frame.Frame.{Frame}
 use Rattle.wire_read.specs.Framing.{Reader}
 use Rattle.wire_write.specs.Texts.{info_line}

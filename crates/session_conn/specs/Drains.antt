@@ -17,8 +17,8 @@ use Rattle.session_conn.specs.declared.drain.Written.{Written}
 use Rattle.session_conn.specs.declared.drain.Written.TheVariants.{All, Closes, Short}
 use Rattle.session_plan.specs.Replies.{closed_from, takes_headers}
 use Rattle.session_conn.specs.Turns.{Steps, event, IsAnswered}
-use Rattle.session_pending.specs.Owing.{Owed, owed_by}
-pub use Rattle.session_pending.specs.Texts.{delivery_text, texts, IsWritten}
+use Rattle.session_plan.specs.pending.Owing.{Owed, owed_by}
+pub use Rattle.session_plan.specs.pending.Texts.{delivery_text, texts, IsWritten}
 
 -- ---- what is written
 

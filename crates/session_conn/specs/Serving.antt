@@ -1,7 +1,7 @@
 -- The turns of frames, in order, and the frames that a piece completes (docs/GUARANTEE.md, "A connection").
 use Rattle.std.specs.Prelude.{◌≡◌, ℕ, Bool, true, false, List, [], ◌∷◌, ◌++◌, Option, Some, None}
 use Rattle.wire_read.specs.declared.frame.Frame.{Frame}
-pub use Rattle.session_pending.specs.Reading.{frames_after, reader_after}
+pub use Rattle.session_plan.specs.pending.Reading.{frames_after, reader_after}
 use Rattle.session_plan.specs.declared.stage.Stage.{Stage}
 use Rattle.session_conn.specs.declared.output.Stall.{Stall}
 use Rattle.session_plan.specs.Replies.{is_closed}

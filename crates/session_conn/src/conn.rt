@@ -4,13 +4,13 @@ use crate::output::{Output, Stall};
 use crate::serve::serve;
 use crate::submit::submit;
 use base::NoMemory;
-use connect_opts::info_text;
 use events::{Answer, Command, Event, HubRefusal, Port, Words};
-use session_pending::{Frames, Owed};
 use session_plan::Stage;
+use session_plan::pending::{Frames, Owed};
 use std::alloc::Global;
 use std::marker::Model;
 use wire_read::FrameReader;
+use wire_write::connect_opts::info_text;
 use wire_write::write_info;
 
 /// A connection. A clause sees its number, what its reader keeps, where it is in its life, the frames that wait for
@@ -95,7 +95,7 @@ fn info_of(alloc: Global, conn: u64) -> Result<Vec<u8>, NoMemory>
 
 ghost use Rattle.std.specs.Prelude.{◌≡◌, ◌≤◌, [], IfOk, false, length, true, None};
 ghost use Rattle.session_conn.specs.Calls.{undrained};
-ghost use Rattle.connect_opts.specs.Info.{info_text};
+ghost use Rattle.wire_write.specs.connect_opts.Info.{info_text};
 ghost use Rattle.wire_write.specs.Texts.{info_line};
 
 impl Conn {

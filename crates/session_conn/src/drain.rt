@@ -8,7 +8,7 @@ use crate::context::DrainContext;
 use crate::output::Stall;
 use crate::submit::submit;
 use events::{Answer, Command, Event, HubRefusal, Port};
-use session_pending::{Owed, make_room, write_front};
+use session_plan::pending::{Owed, make_room, write_front};
 use session_plan::{Stage, Text, put_text, write_text};
 use std::alloc::Global;
 use wire_write::ServerError;

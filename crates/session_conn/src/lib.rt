@@ -1,5 +1,5 @@
-//! One connection: the bytes of its client to events of a port, and the answers to bytes (NATS documentation,
-//! "Client Protocol"; docs/PROTOCOL.md).
+//! One connection: the bytes of its client to events of a port, and the answers to bytes (NATS documentation, "Client
+//! Protocol"; docs/PROTOCOL.md). It knows its port by the trait alone, and no other connection.
 #![tactic(auto)]
 
 mod conn;

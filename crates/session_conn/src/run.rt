@@ -11,7 +11,7 @@ use crate::output::Stall;
 use crate::turn::{FrameTurn, is_verbose, turn_of_answer};
 use base::NoMemory;
 use events::{Message, Port, PublishRefusal, RunEnd, Words};
-use session_pending::Frames;
+use session_plan::pending::Frames;
 use session_plan::{Stage, message_of};
 use std::alloc::Global;
 use std::collections::VecDeque;

@@ -10,8 +10,8 @@ use crate::output::Stall;
 use crate::run::{Ahead, take_run};
 use crate::turn::{FrameTurn, take_turn};
 use events::{Port, Words};
-use session_pending::Frames;
 use session_plan::Stage;
+use session_plan::pending::Frames;
 
 /// What the turns of frames came to.
 #[derive(Drop)]

@@ -5,9 +5,9 @@ use Rattle.wire_read.specs.declared.fault.WireFault.{WireFault}
 use Rattle.wire_read.specs.declared.fault.WireFault.TheVariants as fault
 use Rattle.wire_read.specs.declared.frame.Frame.{Frame}
 use Rattle.wire_read.specs.declared.frame.Frame.TheVariants as frame
-use Rattle.connect_opts.specs.Opts.{opts_of}
-use Rattle.connect_opts.specs.Read.{Read}
-use Rattle.connect_opts.specs.declared.opts.ConnectOpts.{ConnectOpts}
+use Rattle.wire_write.specs.connect_opts.Opts.{opts_of}
+use Rattle.wire_write.specs.connect_opts.Read.{Read}
+use Rattle.wire_write.specs.declared.connect_opts.opts.ConnectOpts.{ConnectOpts}
 use Rattle.session_plan.specs.declared.stage.Stage.{Stage}
 use Rattle.session_plan.specs.declared.stage.Stage.TheVariants as stage
 use Rattle.session_plan.specs.declared.plan.Plan.{Plan}

@@ -10,9 +10,9 @@ use Rattle.wire_write.specs.declared.error.ServerError.{ServerError}
 use Rattle.wire_write.specs.declared.error.ServerError.TheVariants as error
 use Rattle.events.specs.declared.event.Command.TheVariants as command
 use Rattle.events.specs.Messages.{Message, message_of}
-use Rattle.connect_opts.specs.Opts.{opts_of}
-use Rattle.connect_opts.specs.Read.{Read}
-use Rattle.connect_opts.specs.declared.opts.ConnectOpts.{ConnectOpts}
+use Rattle.wire_write.specs.connect_opts.Opts.{opts_of}
+use Rattle.wire_write.specs.connect_opts.Read.{Read}
+use Rattle.wire_write.specs.declared.connect_opts.opts.ConnectOpts.{ConnectOpts}
 use Rattle.session_plan.specs.declared.stage.Stage.{Stage}
 use Rattle.session_plan.specs.declared.stage.Stage.TheVariants as stage
 use Rattle.session_plan.specs.declared.text.Text.{Text}

@@ -1,7 +1,8 @@
-//! The tables of the client protocol: what a frame asks of the hub at each stage of a connection, and what its client
-//! is told of the answer (NATS documentation, "Client Protocol"; docs/PROTOCOL.md).
+//! The tables of the client protocol: what a frame asks of the hub at each stage of a connection, what its client is told of
+//! the answer, and what waits there (NATS documentation, "Client Protocol"; docs/PROTOCOL.md). It knows no socket and no hub.
 #![tactic(auto)]
 
+pub mod pending;
 mod plan;
 mod reply;
 mod stage;

@@ -1,6 +1,6 @@
 // The plan of a frame: what is done about it, before the hub is asked.
 ghost use Rattle.std.specs.Prelude.{◌≡◌, ℕ, None, IfOk, IfSome};
-ghost use Rattle.connect_opts.specs.Opts.{opts_of};
+ghost use Rattle.wire_write.specs.connect_opts.Opts.{opts_of};
 ghost use Rattle.session_plan.specs.declared.stage.Stage.{Stage};
 ghost use Rattle.session_plan.specs.declared.plan.Plan.TheVariants.{Publishes};
 ghost use Rattle.events.specs.Messages as read;
@@ -10,14 +10,14 @@ use crate::reply::{Reply, fault_text, reply_of_error, reply_of_text};
 use crate::stage::Stage;
 use crate::text::Text;
 use base::{NoMemory, Shared, SharedBytes, SharedText};
-use connect_opts::{ConnectError, ConnectOpts};
 use events::{Command, Message};
 use std::alloc::Global;
-use subject_texts::{pattern_if, subject_if};
 use subjects::Subject;
+use subjects::texts::{pattern_if, subject_if};
 use wire_message::MessageText;
 use wire_read::Frame;
 use wire_write::ServerError;
+use wire_write::connect_opts::{ConnectError, ConnectOpts};
 
 /// The plan of a frame: what is done about it, before the hub is asked.
 #[derive(Drop)]

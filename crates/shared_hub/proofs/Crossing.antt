@@ -32,25 +32,24 @@ use Rattle.hub.specs.contracts.hub.Hub.TheInside as hub_in
 use Rattle.hub.specs.contracts.hub.Hub as hub
 use Rattle.policy_ready.proofs.ready.Ready.TheSendSync as ready
 use Rattle.world_sessions.proofs.sessions.Sessions.TheSendSync as sessions
-use Rattle.world_routing.proofs.caches.Caches.TheSendSync as caches
-use Rattle.service_routes.proofs.routes.Routes.TheSendSync as routes
+use Rattle.world.proofs.Handed.{caches_send, routes_send}
 use Rattle.events.proofs.answer.Entry.TheSendSync as entry
 use Rattle.base.proofs.shared.Shared.TheSendSync as shared
 use Rattle.world.proofs.plain.PlainWorld.TheSendSync as plain
-use Rattle.shared_desk.specs.contracts.desk.Desk as desk
+use Rattle.shared_hub.specs.contracts.desk.desk.Desk as desk
 use Rattle.shared_hub.specs.contracts.shared_hub.SharedHub as shared_row
 use Rattle.std.proofs.sync.ledger.Book.TheSendSync as book
 use Rattle.shared_waits.proofs.waits.Waits.TheSendSync as waits
 use Rattle.std.proofs.sync.Mutex.TheSendSync as mutex
-use Rattle.shared_desk.specs.declared.desk.Run.{Ghosts as Runs}
+use Rattle.shared_hub.specs.declared.desk.desk.Run.{Ghosts as Runs}
 use Rattle.std.specs.declared.sync.ledger.Ledger.{Ghosts as Ledgers}
 use Rattle.std.specs.contracts.sync.ledger.Share as share_row
 use Rattle.std.proofs.sync.ledger.Share.TheSendSync as share
 use Rattle.shared_hub.specs.contracts.shared_hub.Rest as rest_row
-use Rattle.world_ids.specs.contracts.trees.Trees as trees
+use Rattle.world_rows.specs.contracts.ids.trees.Trees as trees
 use Rattle.world_subscriptions.specs.contracts.subscriptions.Subscriptions as subs
-use Rattle.world_ids.proofs.sids.Sids.TheSendSync as sids
-use Rattle.world_ids.proofs.id_cache.IdCache.TheSendSync as id_cache
+use Rattle.world_rows.proofs.ids.sids.Sids.TheSendSync as sids
+use Rattle.world_rows.proofs.ids.id_cache.IdCache.TheSendSync as id_cache
 use Rattle.world_rows.proofs.rows.Rows.TheSendSync as rows
 
 ids_send : IsSend (ids.the_field).row
@@ -80,7 +79,7 @@ subs_out_send t = search (sendable, t) depth 6
 
 world_send : IsSend subs.the_row → IsSend world_in.the_row
 world_send t = recorded_send _ _ _ (world_in.the_type).to_one (struct_send (shape world_in.the_type)
-    (global.the_field_send, (state.the_field_send, (ready.the_send, (search sendable, (search sendable, (search sendable, (search sendable, (sessions.the_send, (t, (caches.the_field_send, (routes.the_send, (search sendable, tt)))))))))))))
+    (global.the_field_send, (state.the_field_send, (ready.the_send, (search sendable, (search sendable, (search sendable, (search sendable, (sessions.the_send, (t, (caches_send, (routes_send, (search sendable, tt)))))))))))))
 
 world_out_send : IsSend world_in.the_row → IsSend world.the_row
 world_out_send t = search (sendable, t) depth 6

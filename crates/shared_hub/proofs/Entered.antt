@@ -10,8 +10,8 @@ use Rattle.world.specs.World.{World}
 use Rattle.hub.specs.History.{State, IsLegalRun}
 use Rattle.hub.specs.Segments.{HistoryPart, tail_of}
 use Rattle.hub.proofs.Parts.{run-number}
-use Rattle.hub_segments.specs.Joins.{parts_of, has_number, due, IsRight, AreOneHistory}
-use Rattle.shared_receipts.specs.Receipts.{Receipt}
+use Rattle.hub.specs.joins.Joins.{parts_of, has_number, due, IsRight, AreOneHistory}
+use Rattle.shared_waits.specs.receipts.Receipts.{Receipt}
 use Rattle.shared_hub.specs.declared.audit.AuditFault.{AuditFault}
 use Rattle.shared_hub.specs.declared.audit.AuditFault.TheVariants.{SeatMissing, SegmentGap, ReceiptMismatch, NoMemory}
 use Rattle.shared_hub.specs.Audits.{entry_after, AreGenuine, IsJoined, AreEntered, IsWhole, IsFault, IsDue, IsLookUp}

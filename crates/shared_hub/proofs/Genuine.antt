@@ -4,7 +4,7 @@ use Rattle.std.proofs.lemmas.List.{take_more, drop_more, take-append-drop}
 use Rattle.std.proofs.lemmas.List.Elements.{All-nil, All-push}
 use Rattle.std.proofs.lemmas.List.Quantifiers.{all_pairs_push}
 use Rattle.events.specs.declared.answer.Entry.{Entry}
-use Rattle.shared_receipts.specs.Receipts.{Receipt}
+use Rattle.shared_waits.specs.receipts.Receipts.{Receipt}
 use Rattle.shared_hub.specs.Audits.{Stands, HasNone, AreGenuine, IsMismatch}
 
 -- the receipts before any

@@ -2,8 +2,8 @@
 use Rattle.std.proofs.Common.{ℕ, Ok, Err}
 use Rattle.events.specs.declared.event.Event.{Event}
 use Rattle.events.specs.declared.refusal.PublishRefusal.TheVariants.{By, Held}
-use Rattle.shared_runs.specs.Runs.{Came}
-use Rattle.shared_desk.specs.Publishing.{Inside, inside, IsPublished}
+use Rattle.shared_waits.specs.runs.Runs.{Came}
+use Rattle.shared_hub.specs.desk.Publishing.{Inside, inside, IsPublished}
 use Rattle.shared_hub.specs.Entering.{IsOfferedBy}
 
 -- of the seat only its count matters

@@ -5,8 +5,8 @@ use Rattle.events.specs.declared.answer.Entry.{Entry}
 use Rattle.world.specs.World.{World}
 use Rattle.hub.specs.History.{State, IsOpening, IsLegalRun}
 use Rattle.hub.specs.Segments.{HistoryPart}
-use Rattle.hub_segments.specs.Joins.{parts_of, has_number, IsLeastFault}
-use Rattle.shared_receipts.specs.Receipts.{Receipt}
+use Rattle.hub.specs.joins.Joins.{parts_of, has_number, IsLeastFault}
+use Rattle.shared_waits.specs.receipts.Receipts.{Receipt}
 use Rattle.shared_hub.specs.declared.audit.AuditFault.{AuditFault}
 use Rattle.shared_hub.specs.declared.audit.AuditFault.TheVariants.{SeatMissing, SegmentGap, ReceiptMismatch, NoMemory}
 

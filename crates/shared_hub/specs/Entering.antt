@@ -9,10 +9,10 @@ use Rattle.events.specs.declared.refusal.PublishRefusal.TheVariants.{By}
 use Rattle.events.specs.Offers.{IsOffered}
 use Rattle.hub.specs.Guarantee.{IsRouted}
 use Rattle.hub.specs.History.{State, IsStep}
-use Rattle.shared_receipts.specs.Receipts.{Receipt}
-use Rattle.shared_runs.specs.Runs.{Came}
-use Rattle.shared_desk.specs.Entering.{IsEntered}
-use Rattle.shared_desk.specs.Publishing.{Inside, IsPublished}
+use Rattle.shared_waits.specs.receipts.Receipts.{Receipt}
+use Rattle.shared_waits.specs.runs.Runs.{Came}
+use Rattle.shared_hub.specs.desk.Entering.{IsEntered}
+use Rattle.shared_hub.specs.desk.Publishing.{Inside, IsPublished}
 
 -- What a seat knows of an answered event: its entry has the event, it is one more of the seat's, and since the run opened
 -- at least as many entries were made as the seat has.

@@ -8,8 +8,8 @@ ghost use Rattle.shared_hub.specs.Audits.{Stands, HasNone, IsFound, IsJoined, Ar
 
 use crate::Receipt;
 use base::Alike;
+use hub::joins::joins;
 use hub::{Answer, Hub, Segment};
-use hub_segments::joins;
 
 /// Why a closing audit is refused.
 #[derive(Clone, Copy, Debug, PartialEq, Eq)]

@@ -50,7 +50,7 @@ pub(crate) struct Rest<L: Run> {
 impl<L: Run> SharedHub<L> {
     ghost use Rattle.std.specs.Prelude.{◌≡◌, ◌+◌, ◌<◌, ◌≤◌, ◌++◌, IfOk, IfErr, All, List, MatchResult, vec_len, map};
     ghost use Rattle.shared_hub.specs.Entering.{IsSubmitted, IsAnswered, IsOfferedBy, IsLonger};
-    ghost use Rattle.shared_runs.specs.Runs.{IsRun, StaysBelow};
+    ghost use Rattle.shared_waits.specs.runs.Runs.{IsRun, StaysBelow};
     ghost use Rattle.events.specs.declared.answer.Entry.{Entry};
     ghost use Rattle.shared_hub.specs.Audits.{IsWhole, IsDue};
 

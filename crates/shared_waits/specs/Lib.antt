@@ -1,3 +1,5 @@
 pub mod Charges
 pub mod Patience
 pub mod Waiting
+pub mod receipts
+pub mod runs

@@ -1,4 +1,5 @@
-//! Subjects, patterns with wildcards, and how they compare.
+//! Subjects, patterns with wildcards, how they compare, and lists of patterns that are searched by literal tokens. It knows
+//! no account, no user and no message.
 #![tactic(auto)]
 
 mod bytewise;
@@ -9,8 +10,10 @@ mod faults;
 mod fingerprint;
 mod outside;
 mod pattern;
+pub mod pattern_groups;
 mod subject;
 mod subject_ref;
+pub mod texts;
 mod tokens;
 
 pub use error::SubjectError;

@@ -1,4 +1,5 @@
-//! The subscriptions that a subject reaches, found by the tokens of their patterns.
+//! The subscriptions that a subject reaches, found by the tokens of their patterns. It knows subscriptions by their ids
+//! alone.
 #![tactic(auto)]
 
 mod branch;

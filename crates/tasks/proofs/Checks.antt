@@ -1,11 +1,11 @@
 -- What is said of a text that is longer than a policy's may be.
 use Rattle.std.proofs.Common.{◌≡◌, ◌∙◌, ◌<◌, ◌++◌, ℕ, List, codes, length, ap, sym, refl, Err}
 use Rattle.std.proofs.lemmas.Bool.{lt-ltb}
-use Rattle.account_config.specs.Policy.{policy_of}
+use Rattle.policy_text.specs.account_config.Policy.{policy_of}
 use Rattle.policy_walk.specs.declared.fault.ConfigFault.TheVariants.{TooLarge}
-use Rattle.reload.specs.Fault.{fault_line}
-use Rattle.reload.specs.Reload.{judged}
-use Rattle.reload.specs.declared.fault.ReloadFault.TheVariants.{Config}
+use Rattle.policy_text.specs.reload.Fault.{fault_line}
+use Rattle.policy_text.specs.reload.Reload.{judged}
+use Rattle.policy_text.specs.declared.reload.fault.ReloadFault.TheVariants.{Config}
 use Rattle.command_line.specs.declared.question.Question.{Question}
 use Rattle.tasks.specs.Check.{parted, report_of, reported, sets_of_text}
 use Rattle.tasks.specs.Explaining.{explained_by, replied}

@@ -7,9 +7,9 @@ use Rattle.policy_doc.specs.declared.document.Version.{Version}
 use Rattle.policy_doc.specs.declared.document.Version.TheVariants.{One, Two}
 use Rattle.policy_sets.specs.Lines.{lines_of}
 use Rattle.policy_sets.specs.Sets.{sets_of}
-use Rattle.reload.specs.Fault.{fault_line}
-use Rattle.reload.specs.Reload.{prepared}
-use Rattle.reload.specs.declared.fault.ReloadFault.{ReloadFault}
+use Rattle.policy_text.specs.reload.Fault.{fault_line}
+use Rattle.policy_text.specs.reload.Reload.{prepared}
+use Rattle.policy_text.specs.declared.reload.fault.ReloadFault.{ReloadFault}
 use Rattle.script.specs.Play.{Played}
 
 abbrev pub numbers : Counts → List ℕ

@@ -21,9 +21,9 @@ use Rattle.explain.specs.declared.explanation.Explanation.{Explanation}
 use Rattle.explain.specs.declared.fault.ExplainFault.{ExplainFault}
 use Rattle.explain.specs.declared.fault.ExplainFault.TheVariants as explaining
 use Rattle.explain.specs.declared.path.PathShare.{PathShare}
-use Rattle.reload.specs.Fault.{fault_line}
-use Rattle.reload.specs.Reload.{prepared}
-use Rattle.reload.specs.declared.fault.ReloadFault.{ReloadFault}
+use Rattle.policy_text.specs.reload.Fault.{fault_line}
+use Rattle.policy_text.specs.reload.Reload.{prepared}
+use Rattle.policy_text.specs.declared.reload.fault.ReloadFault.{ReloadFault}
 use Rattle.script.specs.Play.{Played}
 use Rattle.tasks.specs.declared.answer.AnswerFault.{AnswerFault}
 use Rattle.tasks.specs.declared.answer.AnswerFault.TheVariants.{BadSubject, NoSuchUser, NoSuchAccount, NoMemory}

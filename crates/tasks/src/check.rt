@@ -2,18 +2,18 @@
 ghost use Rattle.std.specs.Prelude.{◌≡◌, ◌≢◌, ◌<◌, ◌||◌, ◌++◌, Err, false, codes, decimal, List, ℕ, length, IfOk, OnErr, OnOk, IfSome};
 ghost use Rattle.std.specs.Io.KnownBytes.{Appends};
 ghost use Rattle.devices.specs.Device.{AppendsFront};
-ghost use Rattle.reload.specs.Fault.{fault_line, is_memory};
+ghost use Rattle.policy_text.specs.reload.Fault.{fault_line, is_memory};
 ghost use Rattle.tasks.specs.Check.{counts_line, report_of, sources_word};
 ghost use Rattle.tasks.specs.Fault.{is_read_failed, is_write_failed};
 
 use crate::fault::TaskFault;
-use account_config::MOST_BYTES;
 use base::{Items, NoMemory};
 use devices::{Sink, Source, read_within, write_all};
 use itoa::Buffer;
 use policy_doc::{Policy, Version};
+use policy_text::account_config::MOST_BYTES;
+use policy_text::reload::{ReloadFault, read_valid_policy};
 use policy_walk::ConfigFault;
-use reload::{ReloadFault, read_valid_policy};
 use std::alloc::Global;
 
 /// The most reads that bring a policy, with the one that finds its end.

@@ -8,11 +8,11 @@ ghost use Rattle.tasks.specs.Fault.{is_read_failed, is_write_failed};
 use crate::answer::answer_by;
 use crate::check::{MOST_READS, Report, fault_line, report_too_large};
 use crate::fault::TaskFault;
-use account_config::MOST_BYTES;
 use base::NoMemory;
 use command_line::Question;
 use devices::{Sink, Source, read_within, write_all};
-use reload::read_valid_policy;
+use policy_text::account_config::MOST_BYTES;
+use policy_text::reload::read_valid_policy;
 use std::alloc::Global;
 
 /// Returns the report on a question to the text of a policy.

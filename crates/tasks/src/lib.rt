@@ -1,4 +1,5 @@
-//! Does what the words of a command line ask for, and tells what came of it (docs/SCRIPT.md, "Statuses").
+//! Does what the words of a command line ask for, and tells what came of it (docs/SCRIPT.md, "Statuses"). It serves nobody:
+//! `natsd` starts a server.
 #![tactic(auto)]
 
 mod answer;

@@ -9,12 +9,12 @@ ghost use Rattle.tasks.specs.Fault.{is_read_failed, is_write_failed};
 
 use crate::check::{MOST_READS, Report, fault_line, report_too_large};
 use crate::fault::TaskFault;
-use account_config::MOST_BYTES;
 use base::{Items, NoMemory};
 use devices::{Sink, Source, read_within, write_all};
 use policy_doc::Policy;
 use policy_sets::{closed_sets, lines_of};
-use reload::read_valid_policy;
+use policy_text::account_config::MOST_BYTES;
+use policy_text::reload::read_valid_policy;
 use std::alloc::Global;
 
 /// Returns the report on the sets of the policy of a text.

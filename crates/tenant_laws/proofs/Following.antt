@@ -2,8 +2,8 @@
 use Rattle.std.proofs.Common.{◌≡◌, ◌∙◌, ◌≢◌, ◌≤◌, ◌+◌, ℕ, Bool, true, false, cond, List, [], ◌∷◌, map, Option, Some, None, Result, Ok, Err, ap, sym, refl, subst, arith, max}
 use Rattle.std.specs.Prelude.{All}
 use Rattle.std.proofs.lemmas.List.Elements.{All-head, All-tail}
-use Rattle.permission_doc.specs.declared.document.Terms.{Terms}
-use Rattle.reply_grants.specs.Replies.{Table}
+use Rattle.policy_doc.specs.declared.permission_doc.document.Terms.{Terms}
+use Rattle.world_sessions.specs.Replies.{Table}
 use Rattle.service_exporter.specs.Routes.{Exporter, Numbered, lives, living}
 use Rattle.service_routes.specs.Routes.{Name, pruned}
 use Rattle.service_routes.proofs.Seen.{dead}
@@ -11,26 +11,26 @@ use Rattle.events.specs.declared.event.Event.{Event}
 use Rattle.events.specs.declared.answer.Outcome.{Outcome}
 use Rattle.events.specs.declared.refusal.HubRefusal.{HubRefusal}
 use Rattle.events.specs.declared.refusal.HubRefusal.TheVariants.{SessionLimit}
-use Rattle.world_deliveries.specs.Replying.{terms_of}
-use Rattle.world_deliveries.specs.declared.session.Session.{Session}
+use Rattle.world_sessions.specs.deliveries.Replying.{terms_of}
+use Rattle.world_sessions.specs.declared.deliveries.session.Session.{Session}
 use Rattle.world.specs.World.{World, advanced}
 use Rattle.world.specs.Transition.{moved, numbered, transition}
 use Rattle.hub.specs.Routes.{AreRouted}
 use Rattle.hub.specs.Sound.{IsSound}
-use Rattle.hub_grant_laws.specs.Dropping.{AreAlike, answer_in, dropping, settled, with_live, world_after}
-use Rattle.hub_grant_laws.proofs.Law.{no_difference}
-use Rattle.hub_grant_laws.proofs.Tables.{live_in, live_later}
-use Rattle.tenant_parts.specs.Least.{exporters_on_least}
-use Rattle.tenant_parts.specs.Part.{exporters_of}
-use Rattle.tenant_parts.proofs.Routes.{prunes}
-use Rattle.tenant_parts.proofs.OnLeast.{least_pruned}
-use Rattle.tenant_worlds.specs.Tenants.{Tenants, sessions_of, subscriptions_of, unnumbered}
-use Rattle.tenant_worlds.specs.Answers.{part_of_command, seen_by}
-use Rattle.tenant_worlds.specs.Alike.{ArePaired, IsOwnSession, IsPartOf}
-use Rattle.tenant_worlds.specs.Laws.{AreMovedAlike, HasLeft, HasOwnSessions, IsMarked, KeepsApart}
-use Rattle.tenant_worlds.proofs.Pairs.{pairs_mapped}
-use Rattle.tenant_worlds.proofs.Staying.{sessions_stay_apart}
-use Rattle.tenant_worlds.proofs.Steps.{others_leave_part, own_commands_agree}
+use Rattle.hub_laws.specs.grants.Dropping.{AreAlike, answer_in, dropping, settled, with_live, world_after}
+use Rattle.hub_laws.proofs.grants.Law.{no_difference}
+use Rattle.hub_laws.proofs.grants.Tables.{live_in, live_later}
+use Rattle.tenant_laws.specs.parts.Least.{exporters_on_least}
+use Rattle.tenant_laws.specs.parts.Part.{exporters_of}
+use Rattle.tenant_laws.proofs.parts.Routes.{prunes}
+use Rattle.tenant_laws.proofs.parts.OnLeast.{least_pruned}
+use Rattle.tenant_laws.specs.worlds.Tenants.{Tenants, sessions_of, subscriptions_of, unnumbered}
+use Rattle.tenant_laws.specs.worlds.Answers.{part_of_command, seen_by}
+use Rattle.tenant_laws.specs.worlds.Alike.{ArePaired, IsOwnSession, IsPartOf}
+use Rattle.tenant_laws.specs.worlds.Laws.{AreMovedAlike, HasLeft, HasOwnSessions, IsMarked, KeepsApart}
+use Rattle.tenant_laws.proofs.worlds.Pairs.{pairs_mapped}
+use Rattle.tenant_laws.proofs.worlds.Staying.{sessions_stay_apart}
+use Rattle.tenant_laws.proofs.worlds.Steps.{others_leave_part, own_commands_agree}
 use Rattle.tenant_laws.specs.Runs.{Happening, LeavesApart, answer_seen, next_world, waiting_for}
 use Rattle.tenant_laws.proofs.Rest.{all_kept, apart, upheld}
 

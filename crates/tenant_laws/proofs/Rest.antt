@@ -6,39 +6,39 @@ use Rattle.std.specs.Option.{option_map}
 use Rattle.std.specs.Cmp.Lexicographic.{bytes_decides, pointwise}
 use Rattle.std.proofs.lemmas.Bool.{and_parts, and_from, eqb-true, ltb-true, lt-leb}
 use Rattle.std.proofs.lemmas.List.Elements.{All-head, All-tail, All-filter, All-map, All-weaker}
-use Rattle.exports.specs.declared.document.Kind.TheVariants.{Service}
-use Rattle.permission_doc.specs.declared.document.Terms.{Terms}
+use Rattle.policy_doc.specs.declared.exports.document.Kind.TheVariants.{Service}
+use Rattle.policy_doc.specs.declared.permission_doc.document.Terms.{Terms}
 use Rattle.policy_doc.specs.declared.document.ImportDoc.{ImportDoc}
 use Rattle.policy_doc.specs.declared.document.PolicyDoc.{PolicyDoc}
 use Rattle.policy_sets.specs.Sets.{IsClosed}
 use Rattle.policy_ready.specs.Users.{is_same_user, user_again, user_named, users_of}
 use Rattle.policy_ready.specs.declared.ready.User.{User}
-use Rattle.reply_grants.specs.Grants.{is_live}
-use Rattle.reply_grants.specs.Replies.{Table, judged}
+use Rattle.world_sessions.specs.Grants.{is_live}
+use Rattle.world_sessions.specs.Replies.{Table, judged}
 use Rattle.service_exporter.specs.Routes.{Exporter, Numbered, kept_route, lives, on_row, pruned_of}
 use Rattle.service_exporter.specs.declared.route.NewRow.{NewRow}
 use Rattle.service_routes.specs.Routes.{Name, kept, pruned}
 use Rattle.service_routes.proofs.Seen.{dead}
-use Rattle.service_rows.specs.Rows.{renewed as renewed_row, import_at}
-use Rattle.world_deliveries.specs.Sessions.{session_of}
-use Rattle.world_deliveries.specs.declared.session.Session.{Session}
+use Rattle.service_routes.specs.service_rows.Rows.{renewed as renewed_row, import_at}
+use Rattle.world_sessions.specs.deliveries.Sessions.{session_of}
+use Rattle.world_sessions.specs.declared.deliveries.session.Session.{Session}
 use Rattle.world_sessions.specs.Renewal.{remaining, renewed, stays, with_user}
 use Rattle.world_subscriptions.specs.Limit.{has_ended, is_reached}
-use Rattle.world_rows.specs.declared.subscription.Subscription.{Subscription}
+use Rattle.world_subscriptions.specs.Subscription.{Subscription}
 use Rattle.world.specs.World.{World, advanced}
 use Rattle.world.specs.Reload.{may_stand, stands_on, user_after, verdict_for}
 use Rattle.hub.specs.Kept.{IsKeptTable}
 use Rattle.hub.specs.Routes.{EachRoute, IsOfRow}
 use Rattle.hub.specs.Sound.{IsSound, account_of, is_below, is_to_receive, may_subscribe, user_at, user_behind}
-use Rattle.hub_grant_laws.specs.Dropping.{settled, with_live}
-use Rattle.hub_grant_laws.proofs.Tables.{live_in, live_later}
-use Rattle.tenant_parts.specs.Least.{all_on_least, exporter_on_least, exporters_on_least, least_row, on_least}
-use Rattle.tenant_parts.proofs.Least.{has_itself}
-use Rattle.tenant_parts.proofs.OnLeast.{least_pruned}
-use Rattle.tenant_parts.proofs.Policy.{import_ends}
-use Rattle.tenant_worlds.specs.Tenants.{Tenants}
-use Rattle.tenant_worlds.specs.Alike.{AreApart, IsOwnExporter, IsOwnSession, IsOwnSubscription, IsUpheld}
-use Rattle.tenant_worlds.proofs.Commands.{found_all}
+use Rattle.hub_laws.specs.grants.Dropping.{settled, with_live}
+use Rattle.hub_laws.proofs.grants.Tables.{live_in, live_later}
+use Rattle.tenant_laws.specs.parts.Least.{all_on_least, exporter_on_least, exporters_on_least, least_row, on_least}
+use Rattle.tenant_laws.proofs.parts.Least.{has_itself}
+use Rattle.tenant_laws.proofs.parts.OnLeast.{least_pruned}
+use Rattle.tenant_laws.proofs.parts.Policy.{import_ends}
+use Rattle.tenant_laws.specs.worlds.Tenants.{Tenants}
+use Rattle.tenant_laws.specs.worlds.Alike.{AreApart, IsOwnExporter, IsOwnSession, IsOwnSubscription, IsUpheld}
+use Rattle.tenant_laws.proofs.worlds.Commands.{found_all}
 
 -- ---- lists
 

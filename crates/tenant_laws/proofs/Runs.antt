@@ -6,14 +6,14 @@ use Rattle.policy_doc.specs.declared.document.PolicyDoc.{PolicyDoc}
 use Rattle.events.specs.declared.event.Event.{Event}
 use Rattle.events.specs.declared.answer.Outcome.{Outcome}
 use Rattle.events.specs.declared.refusal.HubRefusal.{HubRefusal}
-use Rattle.world_rows.specs.declared.subscription.Subscription.{Subscription}
+use Rattle.world_subscriptions.specs.Subscription.{Subscription}
 use Rattle.world.specs.World.{World, opening_world}
 use Rattle.world.specs.Transition.{transition}
 use Rattle.hub.specs.Sound.{IsSound}
-use Rattle.hub_grant_laws.specs.Dropping.{answer_in, dropping, world_after}
-use Rattle.tenant_parts.specs.Part.{part_of}
-use Rattle.tenant_worlds.specs.Tenants.{Tenants, subscriptions_of, unnumbered}
-use Rattle.tenant_worlds.specs.Alike.{HaveOneId, IsOwnSession, IsSame, Pair}
+use Rattle.hub_laws.specs.grants.Dropping.{answer_in, dropping, world_after}
+use Rattle.tenant_laws.specs.parts.Part.{part_of}
+use Rattle.tenant_laws.specs.worlds.Tenants.{Tenants, subscriptions_of, unnumbered}
+use Rattle.tenant_laws.specs.worlds.Alike.{HaveOneId, IsOwnSession, IsSame, Pair}
 use Rattle.tenant_laws.specs.Runs.{Happening, LeaveApart, Meeting, TenantsAreIsolated, Waiting, answer_seen, asked, meeting, met, next_world, waiting_for}
 use Rattle.tenant_laws.proofs.Following.{Follows, StepsAlong, asked_event, others_step, own_step, standing_same, waiting_same}
 

@@ -4,17 +4,17 @@ use Rattle.std.specs.Prelude.{All}
 use Rattle.std.proofs.lemmas.List.Elements.{All-filter, All-map, filter_passes}
 use Rattle.policy_sets.specs.Sets.{IsClosed}
 use Rattle.service_routes.specs.Routes.{pruned}
-use Rattle.world_rows.specs.declared.subscription.Subscription.{Subscription}
+use Rattle.world_subscriptions.specs.Subscription.{Subscription}
 use Rattle.world.specs.World.{World}
 use Rattle.hub.specs.Sound.{IsSound}
-use Rattle.hub_grant_laws.specs.Dropping.{with_live}
-use Rattle.tenant_parts.specs.Least.{exporters_on_least}
-use Rattle.tenant_parts.specs.Part.{exporters_of, part_of}
-use Rattle.tenant_parts.proofs.Least.{least_in_part}
-use Rattle.tenant_parts.proofs.Routes.{prunes}
-use Rattle.tenant_worlds.specs.Tenants.{Tenants, has_subscription, sessions_of, subscriptions_of}
-use Rattle.tenant_worlds.specs.Alike.{ArePaired, HaveOneId, IsOwnExporter, IsOwnSession, IsSame, Pair, first_of, second_of}
-use Rattle.tenant_worlds.proofs.Pairs.{mapped_twice}
+use Rattle.hub_laws.specs.grants.Dropping.{with_live}
+use Rattle.tenant_laws.specs.parts.Least.{exporters_on_least}
+use Rattle.tenant_laws.specs.parts.Part.{exporters_of, part_of}
+use Rattle.tenant_laws.proofs.parts.Least.{least_in_part}
+use Rattle.tenant_laws.proofs.parts.Routes.{prunes}
+use Rattle.tenant_laws.specs.worlds.Tenants.{Tenants, has_subscription, sessions_of, subscriptions_of}
+use Rattle.tenant_laws.specs.worlds.Alike.{ArePaired, HaveOneId, IsOwnExporter, IsOwnSession, IsSame, Pair, first_of, second_of}
+use Rattle.tenant_laws.proofs.worlds.Pairs.{mapped_twice}
 use Rattle.tenant_laws.specs.Runs.{OthersAreUnseen, next_world}
 use Rattle.tenant_laws.proofs.Rest.{apart}
 use Rattle.tenant_laws.proofs.Following.{Follows, live_theirs, others_step, routes_live, standing_same, waiting_same}

@@ -7,17 +7,17 @@ use Rattle.events.specs.declared.answer.Outcome.{Outcome}
 use Rattle.events.specs.declared.event.Event.{Event}
 use Rattle.events.specs.declared.refusal.HubRefusal.{HubRefusal}
 use Rattle.events.specs.declared.refusal.HubRefusal.TheVariants.{SessionLimit}
-use Rattle.world_deliveries.specs.declared.session.Session.{Session}
-use Rattle.world_rows.specs.declared.subscription.Subscription.{Subscription}
+use Rattle.world_sessions.specs.declared.deliveries.session.Session.{Session}
+use Rattle.world_subscriptions.specs.Subscription.{Subscription}
 use Rattle.world.specs.World.{World, opening_world}
 use Rattle.world.specs.Transition.{transition}
 use Rattle.hub.specs.Sound.{IsSound}
-use Rattle.hub_grant_laws.specs.Dropping.{answer_in, world_after}
-use Rattle.tenant_parts.specs.Part.{part_of}
-use Rattle.tenant_worlds.specs.Tenants.{Tenants, sessions_of, subscriptions_of, unnumbered}
-use Rattle.tenant_worlds.specs.Alike.{IsOwnSession}
-use Rattle.tenant_worlds.specs.Answers.{part_of_command, seen_by}
-use Rattle.tenant_worlds.specs.Laws.{IsMarked, KeepsApart}
+use Rattle.hub_laws.specs.grants.Dropping.{answer_in, world_after}
+use Rattle.tenant_laws.specs.parts.Part.{part_of}
+use Rattle.tenant_laws.specs.worlds.Tenants.{Tenants, sessions_of, subscriptions_of, unnumbered}
+use Rattle.tenant_laws.specs.worlds.Alike.{IsOwnSession}
+use Rattle.tenant_laws.specs.worlds.Answers.{part_of_command, seen_by}
+use Rattle.tenant_laws.specs.worlds.Laws.{IsMarked, KeepsApart}
 
 -- ---- what tenants meet
 

@@ -1,4 +1,4 @@
-use permission_doc::Terms;
+use policy_doc::permission_doc::Terms;
 use reply_grants::Grants;
 use std::hash::RandomState;
 use std::test::Fail;

@@ -1,10 +1,10 @@
 use base::{Items, NoMemory, Shared};
 use bytes::Bytes;
-use imports::{Rows, ViewItem, Way};
 use policy_doc::{
     AccountDoc, Accounts, ExportDoc, ImportDoc, Kind, Policy, PolicyDoc, ResponseTerms, Row,
     Version,
 };
+use policy_ready::imports::{Rows, ViewItem, Way};
 use std::alloc::Global;
 use std::test::Fail;
 use subjects::{Pattern, Subject};

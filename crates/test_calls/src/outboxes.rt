@@ -1,7 +1,7 @@
 use base::{Copying, NoMemory};
-use outbox::Outbox;
 use std::alloc::Global;
 use std::test::Fail;
+use stores::outbox::Outbox;
 
 /// An element that is told by its number.
 #[derive(Debug, Drop, PartialEq)]

@@ -1,6 +1,6 @@
 use base::{Shared, SharedBytes, SharedText, count_blanks};
 use events::{Delivery, Message, Names, Said, Sent};
-use session_pending::write_delivery;
+use session_plan::pending::write_delivery;
 use std::alloc::Global;
 use std::test::Fail;
 use subjects::Subject;

@@ -1,4 +1,5 @@
-//! The texts of a published message, as they stand in one block (NATS documentation, "Client Protocol", PUB and HPUB).
+//! The texts of a published message, as they stand in one block (NATS documentation, "Client Protocol", PUB and HPUB). It
+//! doesn't know whether its subjects are subjects.
 #![tactic(auto)]
 
 mod message;

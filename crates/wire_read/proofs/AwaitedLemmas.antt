@@ -11,18 +11,18 @@ use Rattle.wire_read.specs.declared.frame.Frame.{Frame}
 use Rattle.wire_read.specs.Command.{Announced}
 use Rattle.wire_read.specs.Command.{Alone, Publish, Refused}
 use Rattle.wire_read.specs.declared.front.End.TheVariants as ends
-use Rattle.wire_lines.specs.declared.line.FoundLine.{FoundLine}
-use Rattle.wire_lines.specs.declared.line.FoundLine.TheVariants.{Open, TooLong, Ended}
+use Rattle.wire_read.specs.declared.lines.line.FoundLine.{FoundLine}
+use Rattle.wire_read.specs.declared.lines.line.FoundLine.TheVariants.{Open, TooLong, Ended}
 use Rattle.wire_read.specs.declared.awaited.Awaited.{Awaited}
 use Rattle.wire_read.specs.declared.awaited.Awaited.TheVariants.{LineEnd, Block}
 use Rattle.wire_read.specs.declared.front.Found.{Found}
 use Rattle.wire_read.specs.declared.front.Found.TheVariants as found
-use Rattle.wire_lines.specs.Line.{is_lf, line_of, without_cr}
+use Rattle.wire_read.specs.lines.Line.{is_lf, line_of, without_cr}
 use Rattle.wire_read.specs.Command.{command}
 use Rattle.wire_read.specs.Front.{Whole, More, Wrong, front, front_at, after_line, after_announced, published, message, ended_by}
 use Rattle.wire_read.specs.Framing.{Framing, framing, behind, framed_by, frames_of, followed}
 use Rattle.wire_read.specs.Awaited.{IsBegun, IsAwaiting, IsFound, AwaitsBlock, front_of}
-use Rattle.wire_lines.proofs.LineLemmas.{line_parts, line_open, without_cr-bounds}
+use Rattle.wire_read.proofs.lines.LineLemmas.{line_parts, line_open, without_cr-bounds}
 use Rattle.wire_read.proofs.FramingLemmas.{frames_step}
 use Rattle.wire_read.proofs.CutLemmas.{ended_more, cut_anywhere_lem}
 

@@ -11,13 +11,13 @@ use Rattle.wire_read.specs.Command.{Announced}
 use Rattle.wire_read.specs.Command.{Command}
 use Rattle.wire_read.specs.Command.{Alone, Publish, Refused}
 use Rattle.wire_read.specs.declared.front.End.TheVariants as ends
-use Rattle.wire_lines.specs.declared.line.FoundLine.{FoundLine}
-use Rattle.wire_lines.specs.declared.line.FoundLine.TheVariants.{Open, TooLong, Ended}
+use Rattle.wire_read.specs.declared.lines.line.FoundLine.{FoundLine}
+use Rattle.wire_read.specs.declared.lines.line.FoundLine.TheVariants.{Open, TooLong, Ended}
 use Rattle.wire_read.specs.Front.{Front, Whole, More, Wrong, front, front_at, after_line, after_announced, published, message, ended_by}
-use Rattle.wire_lines.specs.Line.{is_lf, line_of, without_cr}
+use Rattle.wire_read.specs.lines.Line.{is_lf, line_of, without_cr}
 use Rattle.wire_read.specs.Command.{command}
 use Rattle.wire_read.specs.Framing.{framing, behind, framed_by, first_frames, frames_of, followed, Reader, IsRun, Call, taken_by, given_by, CutAnywhere, ReadsAnyPieces}
-use Rattle.wire_lines.proofs.LineLemmas.{without_cr-bounds, line_long, line_ended, line_parts}
+use Rattle.wire_read.proofs.lines.LineLemmas.{without_cr-bounds, line_long, line_ended, line_parts}
 use Rattle.wire_read.proofs.FramingLemmas.{front_len, frames_step}
 
 -- the first LF stays the first

@@ -7,13 +7,13 @@ use Rattle.wire_read.specs.declared.frame.Frame.TheVariants as frame
 use Rattle.wire_read.specs.Command.{Command}
 use Rattle.wire_read.specs.Command.{Alone, Publish, Refused}
 use Rattle.wire_read.specs.declared.front.End.TheVariants as ends
-use Rattle.wire_lines.specs.declared.line.FoundLine.{FoundLine}
-use Rattle.wire_lines.specs.declared.line.FoundLine.TheVariants.{Open, TooLong, Ended}
+use Rattle.wire_read.specs.declared.lines.line.FoundLine.{FoundLine}
+use Rattle.wire_read.specs.declared.lines.line.FoundLine.TheVariants.{Open, TooLong, Ended}
 use Rattle.wire_read.specs.Front.{Front, Whole, More, Wrong, front, front_at, after_line, published, message, ended_by}
-use Rattle.wire_lines.specs.Line.{line_of, without_cr}
+use Rattle.wire_read.specs.lines.Line.{line_of, without_cr}
 use Rattle.wire_read.specs.Command.{command}
 use Rattle.wire_read.specs.Framing.{Framing, framing, behind, framed_by, first_frames, frames_of}
-use Rattle.wire_lines.proofs.LineLemmas.{ended_within}
+use Rattle.wire_read.proofs.lines.LineLemmas.{ended_within}
 
 -- a message ends with two bytes behind its payload
 pub published_len : (g : Frame) (taken : ℕ) (rest : List ℕ) (f : Frame) (n : ℕ) → published g taken rest ≡ Whole f n → (n ≡ taken) × (2 ≤ length rest)

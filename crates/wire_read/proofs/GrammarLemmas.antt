@@ -13,14 +13,14 @@ use Rattle.wire_read.specs.Command.{Announced}
 use Rattle.wire_read.specs.Command.{Command}
 use Rattle.wire_read.specs.Command.{Alone, Publish, Refused}
 use Rattle.wire_read.specs.declared.front.End.TheVariants as ends
-use Rattle.wire_lines.specs.declared.line.FoundLine.{FoundLine}
-use Rattle.wire_lines.specs.declared.line.FoundLine.TheVariants.{Open, TooLong, Ended}
+use Rattle.wire_read.specs.declared.lines.line.FoundLine.{FoundLine}
+use Rattle.wire_read.specs.declared.lines.line.FoundLine.TheVariants.{Open, TooLong, Ended}
 use Rattle.wire_read.specs.Front.{Front, Whole, More, Wrong, front, front_at, after_line, after_announced, published, message, ended_by}
-use Rattle.wire_lines.specs.Line.{is_lf, line_of, without_cr}
+use Rattle.wire_read.specs.lines.Line.{is_lf, line_of, without_cr}
 use Rattle.wire_read.specs.Command.{command, announced}
 use Rattle.wire_read.specs.Framing.{Framing, framing, behind, framed_by, frames_of}
 use Rattle.wire_read.specs.Grammar.{IsLine, Announces, Says, IsMessage, IsSpelling, IsSpelled, IsRead, IsNoEnd, Shows, IsShown, IsFault, IsPartial, IsFramedBy, IsFraming, HasFraming, HasOneFraming}
-use Rattle.wire_lines.proofs.LineLemmas.{line_long, line_ended, line_parts}
+use Rattle.wire_read.proofs.lines.LineLemmas.{line_long, line_ended, line_parts}
 use Rattle.wire_read.proofs.SaysLemmas.{says_command, command_says}
 use Rattle.wire_read.proofs.FramingLemmas.{front_len, frames_step}
 

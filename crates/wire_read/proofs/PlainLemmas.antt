@@ -12,10 +12,10 @@ use Rattle.base.specs.Blanks.{is_blank}
 use Rattle.wire_message.specs.Texts.{texts}
 use Rattle.wire_read.specs.declared.fault.WireFault.TheVariants.{ParserError, Payload}
 use Rattle.wire_read.specs.declared.frame.Frame.TheVariants as frame
-use Rattle.wire_lines.specs.declared.operation.Operation.TheVariants as operations
-use Rattle.wire_lines.specs.Line.{is_lf, without_cr}
-use Rattle.wire_lines.specs.Field.{has_byte, fields}
-use Rattle.wire_lines.specs.Operation.{operation}
+use Rattle.wire_read.specs.declared.lines.operation.Operation.TheVariants as operations
+use Rattle.wire_read.specs.lines.Line.{is_lf, without_cr}
+use Rattle.wire_read.specs.lines.Field.{has_byte, fields}
+use Rattle.wire_read.specs.lines.Operation.{operation}
 use Rattle.wire_read.specs.Size.{size}
 use Rattle.wire_read.specs.Front.{Whole, front}
 use Rattle.wire_read.specs.Plain.{is_field_byte, IsPlain}

@@ -4,18 +4,18 @@ use Rattle.std.specs.Str.Parse.{digits_value}
 use Rattle.std.proofs.lemmas.Bool.{cases_eq, ltb-true, ltb-false, lt-ltb, le-ltb, cond-true, cond-false}
 use Rattle.wire_read.specs.declared.fault.WireFault.TheVariants.{UnknownOperation, ParserError, ControlLine, Payload}
 use Rattle.wire_read.specs.declared.frame.Frame.TheVariants as frame
-use Rattle.wire_lines.specs.declared.operation.Operation.{Operation}
-use Rattle.wire_lines.specs.declared.operation.Operation.TheVariants.{Connect, Pub, Hpub, Sub, Unsub, Ping, Pong}
+use Rattle.wire_read.specs.declared.lines.operation.Operation.{Operation}
+use Rattle.wire_read.specs.declared.lines.operation.Operation.TheVariants.{Connect, Pub, Hpub, Sub, Unsub, Ping, Pong}
 use Rattle.wire_read.specs.Command.{Announced}
 use Rattle.wire_read.specs.Command.{Command}
 use Rattle.wire_read.specs.Command.{Alone, Publish, Refused}
-use Rattle.wire_lines.specs.Field.{fields, counted, first_field, after_first_field}
-use Rattle.wire_lines.specs.Operation.{operation}
+use Rattle.wire_read.specs.lines.Field.{fields, counted, first_field, after_first_field}
+use Rattle.wire_read.specs.lines.Operation.{operation}
 use Rattle.base.specs.Number.{is_number}
 use Rattle.wire_read.specs.Size.{size, sizes, count, head_within}
 use Rattle.wire_read.specs.Command.{command, said_by, announced, sized, headed, publication, headed_publication, subscription, ended_after, unsubscription, IsWithin}
 use Rattle.wire_read.specs.Grammar.{Has, optional, Writes, Announces, IsMalformed, IsOversized, Says}
-use Rattle.wire_lines.proofs.FieldLemmas.{fields_none, fields_some}
+use Rattle.wire_read.proofs.lines.FieldLemmas.{fields_none, fields_some}
 
 -- no operation has an empty name
 nameless : operation [] ≡ None

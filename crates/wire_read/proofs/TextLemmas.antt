@@ -5,8 +5,8 @@ use Rattle.std.proofs.lemmas.List.{drop-drop, take-take, take-append-drop}
 use Rattle.std.proofs.lemmas.List.Folds.{prefix_len-append}
 use Rattle.base.proofs.Parts.{drop-take_less}
 use Rattle.base.specs.Blanks.{is_blank, blanks_of}
-use Rattle.wire_lines.specs.declared.field.Place.{Place}
-use Rattle.wire_lines.specs.Places.{text_at, text_if_at, IsBehind, IsBehindIf}
+use Rattle.wire_read.specs.declared.lines.field.Place.{Place}
+use Rattle.wire_read.specs.lines.Places.{text_at, text_if_at, IsBehind, IsBehindIf}
 use Rattle.wire_message.specs.Texts.{texts, texts_at, span_if_at, head_of, payload_of, IsSpanOf}
 use Rattle.wire_read.specs.declared.command.AnnouncedAt.{AnnouncedAt}
 use Rattle.wire_read.specs.declared.plain.PlainAt.{PlainAt}

@@ -7,7 +7,7 @@ use Rattle.wire_read.specs.declared.front.Found.{Found}
 use Rattle.wire_read.specs.declared.front.Found.TheVariants as found
 use Rattle.wire_read.specs.declared.advance.Advance.{Advance}
 use Rattle.wire_read.specs.declared.advance.Advance.TheVariants.{Quiet, Takes}
-use Rattle.wire_lines.specs.Line.{is_lf}
+use Rattle.wire_read.specs.lines.Line.{is_lf}
 use Rattle.wire_read.specs.Front.{Front, Whole, More, Wrong, front}
 
 -- bytes up to the end of a block, or to the CR behind it

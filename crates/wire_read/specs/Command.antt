@@ -4,10 +4,10 @@ use Rattle.wire_read.specs.declared.fault.WireFault.{WireFault}
 use Rattle.wire_read.specs.declared.fault.WireFault.TheVariants.{UnknownOperation, ParserError}
 use Rattle.wire_read.specs.declared.frame.Frame.{Frame}
 use Rattle.wire_read.specs.declared.frame.Frame.TheVariants.{Connect, Sub, Unsub, Ping, Pong}
-use Rattle.wire_lines.specs.declared.operation.Operation.{Operation}
-use Rattle.wire_lines.specs.declared.operation.Operation.TheVariants as operations
-use Rattle.wire_lines.specs.Field.{Fields, One, Two, Three, Four, counted, fields, trimmed, first_field, after_first_field}
-use Rattle.wire_lines.specs.Operation.{operation}
+use Rattle.wire_read.specs.declared.lines.operation.Operation.{Operation}
+use Rattle.wire_read.specs.declared.lines.operation.Operation.TheVariants as operations
+use Rattle.wire_read.specs.lines.Field.{Fields, One, Two, Three, Four, counted, fields, trimmed, first_field, after_first_field}
+use Rattle.wire_read.specs.lines.Operation.{operation}
 use Rattle.wire_read.specs.Size.{size, sizes, count}
 
 -- a message that a line announces: the bytes of its header block, if it has one, and all bytes behind the line

@@ -8,11 +8,11 @@ use Rattle.wire_read.specs.declared.frame.Frame.TheVariants.{Pub, Hpub}
 use Rattle.wire_read.specs.Command.{Announced}
 use Rattle.wire_read.specs.Command.{Command}
 use Rattle.wire_read.specs.Command.{Alone, Publish, Refused}
-use Rattle.wire_lines.specs.declared.line.FoundLine.{FoundLine}
-use Rattle.wire_lines.specs.declared.line.FoundLine.TheVariants.{Open, TooLong, Ended}
+use Rattle.wire_read.specs.declared.lines.line.FoundLine.{FoundLine}
+use Rattle.wire_read.specs.declared.lines.line.FoundLine.TheVariants.{Open, TooLong, Ended}
 use Rattle.wire_read.specs.declared.front.End.{End}
 use Rattle.wire_read.specs.declared.front.End.TheVariants as ends
-use Rattle.wire_lines.specs.Line.{line_of, without_cr}
+use Rattle.wire_read.specs.lines.Line.{line_of, without_cr}
 use Rattle.wire_read.specs.Command.{command}
 
 -- a frame and how many bytes it takes, less than a frame, or no frame however the bytes go on

@@ -6,15 +6,15 @@ use Rattle.wire_read.specs.declared.fault.WireFault.{WireFault}
 use Rattle.wire_read.specs.declared.fault.WireFault.TheVariants.{UnknownOperation, ParserError, ControlLine, Payload}
 use Rattle.wire_read.specs.declared.frame.Frame.{Frame}
 use Rattle.wire_read.specs.declared.frame.Frame.TheVariants as frame
-use Rattle.wire_lines.specs.declared.operation.Operation.{Operation}
-use Rattle.wire_lines.specs.declared.operation.Operation.TheVariants.{Connect, Pub, Hpub, Sub, Unsub, Ping, Pong}
+use Rattle.wire_read.specs.declared.lines.operation.Operation.{Operation}
+use Rattle.wire_read.specs.declared.lines.operation.Operation.TheVariants.{Connect, Pub, Hpub, Sub, Unsub, Ping, Pong}
 use Rattle.wire_read.specs.Command.{Announced}
 use Rattle.wire_read.specs.Command.{Command}
 use Rattle.wire_read.specs.Command.{Alone, Publish, Refused}
 use Rattle.wire_read.specs.Front.{Whole, Wrong, front}
-use Rattle.wire_lines.specs.Line.{is_lf, without_cr}
-use Rattle.wire_lines.specs.Field.{fields, trimmed, first_field, after_first_field}
-use Rattle.wire_lines.specs.Operation.{operation}
+use Rattle.wire_read.specs.lines.Line.{is_lf, without_cr}
+use Rattle.wire_read.specs.lines.Field.{fields, trimmed, first_field, after_first_field}
+use Rattle.wire_read.specs.lines.Operation.{operation}
 use Rattle.base.specs.Number.{is_number}
 use Rattle.wire_read.specs.Framing.{Framing, frames_of}
 

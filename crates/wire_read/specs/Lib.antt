@@ -7,3 +7,4 @@ pub mod Awaited
 pub mod Framing
 pub mod Grammar
 pub mod Faults
+pub mod lines

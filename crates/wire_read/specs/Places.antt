@@ -1,6 +1,6 @@
 -- What a line says, by the places of its fields.
 use Rattle.std.specs.Prelude.{ℕ, ◌-◌, ◌<◌, ◌≤◌, List, length, Option, Some, None}
-use Rattle.wire_lines.specs.declared.field.Place.{Place}
+use Rattle.wire_read.specs.declared.lines.field.Place.{Place}
 use Rattle.wire_message.specs.declared.places.Span.{Span}
 use Rattle.wire_read.specs.declared.frame.Frame.{Frame}
 use Rattle.wire_read.specs.declared.frame.Frame.TheVariants as frame
@@ -9,7 +9,7 @@ use Rattle.wire_read.specs.declared.command.FrameAt.{FrameAt}
 use Rattle.wire_read.specs.declared.command.FrameAt.TheVariants as frame_is
 use Rattle.wire_read.specs.declared.command.CommandAt.{CommandAt}
 use Rattle.wire_read.specs.declared.command.CommandAt.TheVariants as command_is
-use Rattle.wire_lines.specs.Places.{text_at, text_if_at, IsBehindIf}
+use Rattle.wire_read.specs.lines.Places.{text_at, text_if_at, IsBehindIf}
 use Rattle.wire_read.specs.Command.{Announced, announced, Command, Alone, Publish, Refused}
 
 -- what a line says with its fields at these places

@@ -2,8 +2,8 @@ ghost use Rattle.wire_read.specs.Awaited.{IsAwaiting, IsAdvance};
 
 use crate::awaited::Awaited;
 use crate::buffer::Buffer;
+use crate::lines::{MAX_CONTROL_LINE, len_without_cr};
 use memchr::memchr;
-use wire_lines::{MAX_CONTROL_LINE, len_without_cr};
 
 /// What a piece adds to the bytes before it.
 pub enum Advance {

@@ -1,17 +1,17 @@
 ghost use Rattle.std.specs.Prelude.{◌≡◌, ◌<◌, ◌≤◌, length, take, drop, IfOk};
-ghost use Rattle.wire_lines.specs.Field.{counted, fields};
-ghost use Rattle.wire_lines.specs.Places.{text_at, text_if_at, IsBehindIf};
+ghost use Rattle.wire_read.specs.lines.Field.{counted, fields};
+ghost use Rattle.wire_read.specs.lines.Places.{text_at, text_if_at, IsBehindIf};
 ghost use Rattle.wire_read.specs.Size.{size, sizes};
 ghost use Rattle.wire_read.specs.Command.{command, publication, headed_publication, subscription, unsubscription, sized, headed};
 ghost use Rattle.wire_read.specs.Places.{frame_at, command_at, AreTextsInOrder};
 
+use crate::lines::{
+    FieldsAt, Operation, Place, cut, cut_if, fields_of, find_operation, first_place, text_at, trim,
+};
 use crate::size::{count_of, size_of, sizes_of};
 use crate::{Frame, WireFault};
 use base::SharedBytes;
 use std::alloc::AllocError;
-use wire_lines::{
-    FieldsAt, Operation, Place, cut, cut_if, fields_of, find_operation, first_place, text_at, trim,
-};
 
 /// What the line of a message says of it.
 #[derive(Clone, Copy)]

@@ -1,7 +1,7 @@
 ghost use Rattle.std.specs.Prelude.{◌≡◌, ◌<◌, ◌≤◌, ◌+◌, length, take, drop, IfOk};
-ghost use Rattle.wire_lines.specs.Line.{line_of};
-ghost use Rattle.wire_lines.specs.Places.{text_at, text_if_at};
-ghost use Rattle.wire_lines.specs.declared.line.FoundLine.TheVariants as line_is;
+ghost use Rattle.wire_read.specs.lines.Line.{line_of};
+ghost use Rattle.wire_read.specs.lines.Places.{text_at, text_if_at};
+ghost use Rattle.wire_read.specs.declared.lines.line.FoundLine.TheVariants as line_is;
 ghost use Rattle.wire_read.specs.Awaited.{IsFound, AwaitsBlock, front_of};
 ghost use Rattle.wire_read.specs.Command.{IsWithin};
 ghost use Rattle.wire_read.specs.Front.{after_announced, block_texts, end_of, message};
@@ -10,10 +10,10 @@ ghost use Rattle.wire_read.specs.declared.front.Found.TheVariants as found;
 
 use crate::awaited::Awaited;
 use crate::command::{AnnouncedAt, CommandAt, frame_of, read_command};
+use crate::lines::{FoundLine, Place, find_line, len_without_cr};
 use crate::{Frame, WireFault};
 use base::SharedBytes;
 use std::alloc::AllocError;
-use wire_lines::{FoundLine, Place, find_line, len_without_cr};
 use wire_message::{MessageText, Span, TextsAt};
 
 /// What some bytes begin with.

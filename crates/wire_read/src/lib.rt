@@ -1,4 +1,5 @@
-//! The frames of the NATS client protocol, read from a stream in any pieces (NATS documentation, "Client Protocol").
+//! The frames of the NATS client protocol, read from a stream in any pieces (NATS documentation, "Client Protocol"). It
+//! doesn't know what a frame asks for, nor whether that is allowed.
 #![tactic(auto)]
 
 mod advance;
@@ -9,6 +10,7 @@ mod fault;
 mod frame;
 mod front;
 mod laws;
+pub mod lines;
 mod plain;
 mod progress;
 mod reader;

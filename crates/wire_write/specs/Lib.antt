@@ -1,2 +1,3 @@
 pub mod Texts
 pub mod Errors
+pub mod connect_opts

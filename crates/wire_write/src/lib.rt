@@ -1,7 +1,9 @@
-//! The texts that the server writes to a client, appended to a buffer (NATS documentation, "Client Protocol").
+//! The texts that the server writes to a client, appended to a buffer, and the options of a CONNECT (NATS documentation,
+//! "Client Protocol"). It knows no connection and no answer of the hub.
 #![tactic(auto)]
 
 mod append;
+pub mod connect_opts;
 mod error;
 mod message;
 mod number;

@@ -10,9 +10,9 @@ use Rattle.events.specs.declared.answer.Outcome.TheVariants.{Connected, AuthViol
 use Rattle.events.specs.declared.refusal.HubRefusal.{HubRefusal}
 use Rattle.events.specs.declared.refusal.PublishRefusal.{PublishRefusal}
 use Rattle.events.specs.declared.refusal.PublishRefusal.TheVariants.{By, Held}
-use Rattle.world_deliveries.specs.declared.session.Session.{Session}
-use Rattle.world_leniency.specs.Held.{Terms, to_all, held_among}
-use Rattle.world_leniency.proofs.Kept.{none_holds}
+use Rattle.world_sessions.specs.declared.deliveries.session.Session.{Session}
+use Rattle.world_sessions.specs.leniency.Held.{Terms, to_all, held_among}
+use Rattle.world_sessions.proofs.leniency.Kept.{none_holds}
 use Rattle.world_routing.specs.World.{World, advanced}
 use Rattle.world.specs.Transition.{moved, numbered, refusal_in, transition, IsMoved, IsApplied, IsReasoned, IsRefusal}
 use Rattle.world.specs.Changes.{items_in}

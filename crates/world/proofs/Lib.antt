@@ -4,3 +4,4 @@ pub mod Losing
 pub mod Publishing
 pub mod Reasons
 pub mod Subscribing
+pub mod Handed

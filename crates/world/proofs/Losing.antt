@@ -10,9 +10,9 @@ use Rattle.permissions.specs.Verdicts.{subscribe_by, is_allowed}
 use Rattle.permissions.specs.declared.verdict.Verdict.{Verdict}
 use Rattle.events.specs.declared.answer.Removed.{Removed}
 use Rattle.policy_ready.specs.declared.ready.User.{User}
-use Rattle.world_deliveries.specs.Sessions.{session_of}
+use Rattle.world_sessions.specs.deliveries.Sessions.{session_of}
 use Rattle.world_sessions.specs.Renewal.{user_again_of, HasSameLists}
-use Rattle.world_deliveries.specs.declared.session.Session.{Session}
+use Rattle.world_sessions.specs.declared.deliveries.session.Session.{Session}
 use Rattle.world_subscriptions.specs.Index.{ids_of}
 use Rattle.world_rows.specs.declared.subscription.Subscription.{Subscription}
 use Rattle.world.specs.Changes.{lost_id}

@@ -9,7 +9,7 @@ use Rattle.world_routing.specs.World.{World}
 use Rattle.world_routing.specs.Handing.{met, carried, of_deliveries}
 use Rattle.events.specs.declared.refusal.HubRefusal.{HubRefusal}
 use Rattle.world_routing.specs.Publishing.{published_by, IsRefusal}
-use Rattle.world_views.specs.Changing.{changed_by, AreNoted}
+use Rattle.world_routing.specs.Changing.{changed_by, AreNoted}
 use Rattle.world_routing.specs.declared.carrying.Deliveries.{Deliveries}
 use Rattle.world_routing.specs.declared.carrying.Routing.{Routing}
 use Rattle.world.specs.Changes.{IsDecided}

@@ -5,7 +5,7 @@ use Rattle.subjects.specs.Subject.{Token}
 use Rattle.permissions.specs.Verdicts.{subscribe_verdict, IsJustifiedSubscribe, HasSubscribeReason}
 use Rattle.permissions.specs.declared.verdict.Verdict.{Verdict}
 use Rattle.policy_ready.specs.declared.ready.User.{User}
-use Rattle.world_deliveries.specs.declared.session.Session.{Session}
+use Rattle.world_sessions.specs.declared.deliveries.session.Session.{Session}
 
 pub subscribe_reason : (o : Option Session) (z : Session) (p p' : List Token) (q : Option (List Token)) (v : Verdict) → Some z ≡ o → p ≡ p' → v ≡ subscribe_verdict z.user.rules p q →
     IsJustifiedSubscribe p q z.user.rules.subscribe v → IfSome o (λ (z : Session). IsJustifiedSubscribe p' q z.user.rules.subscribe (subscribe_verdict z.user.rules p' q))

@@ -9,7 +9,7 @@ use Rattle.policy_ready.specs.declared.ready.User.{User}
 use Rattle.events.specs.declared.answer.Outcome.{Outcome}
 use Rattle.events.specs.declared.answer.Outcome.TheVariants.{Subscribed, SameSid, SubLimit}
 use Rattle.events.specs.declared.refusal.HubRefusal.{HubRefusal}
-use Rattle.world_deliveries.specs.declared.session.Session.{Session}
+use Rattle.world_sessions.specs.declared.deliveries.session.Session.{Session}
 use Rattle.world_subscriptions.specs.Subscriptions.{stands, has_all, subscription_of}
 use Rattle.world_rows.specs.declared.subscription.Subscription.{Subscription}
 use Rattle.world_routing.specs.World.{World}

@@ -3,19 +3,19 @@ use Rattle.std.specs.Prelude.{◌≡◌, ◌==◌, ◌+◌, ◌∷◌, ◌++◌,
 use Rattle.std.specs.List.{filter_map}
 use Rattle.events.specs.declared.answer.Outcome.{Outcome}
 use Rattle.events.specs.declared.refusal.HubRefusal.{HubRefusal}
-use Rattle.world_deliveries.specs.Sessions.{session_of, with_session, drained}
+use Rattle.world_sessions.specs.deliveries.Sessions.{session_of, with_session, drained}
 use Rattle.world_sessions.specs.Renewal.{remaining, user_again_of}
-use Rattle.world_deliveries.specs.declared.session.Session.{Session}
+use Rattle.world_sessions.specs.declared.deliveries.session.Session.{Session}
 use Rattle.world_subscriptions.specs.Subscriptions.{stands, subscription_of}
 use Rattle.world_subscriptions.specs.Limit.{unended, limited}
 use Rattle.world_rows.specs.declared.subscription.Subscription.{Subscription}
-use Rattle.receiver_views.specs.Marked.{AreMarked}
+use Rattle.receivers.specs.views.Marked.{AreMarked}
 use Rattle.world_routing.specs.World.{World}
-pub use Rattle.world_leniency.specs.Items.{items_in}
+pub use Rattle.world_sessions.specs.leniency.Items.{items_in}
 use Rattle.world_routing.specs.Handing.{met, carried, of_deliveries}
-use Rattle.world_views.specs.Changing.{changed_by, AreNoted}
+use Rattle.world_routing.specs.Changing.{changed_by, AreNoted}
 use Rattle.service_routes.specs.Routes.{kept, pruned}
-use Rattle.service_rows.specs.Rows.{renewed}
+use Rattle.service_routes.specs.service_rows.Rows.{renewed}
 use Rattle.policy_doc.specs.declared.document.PolicyDoc.{PolicyDoc}
 use Rattle.world.specs.Reload.{stands_on}
 use Rattle.world.specs.Transition.{IsRefusal}

@@ -7,8 +7,8 @@ use Rattle.events.specs.declared.answer.Outcome.{Outcome}
 use Rattle.events.specs.declared.refusal.HubRefusal.{HubRefusal}
 use Rattle.events.specs.declared.refusal.PublishRefusal.{PublishRefusal}
 use Rattle.events.specs.declared.refusal.PublishRefusal.TheVariants.{By, Held}
-use Rattle.world_deliveries.specs.declared.session.Session.{Session}
-use Rattle.world_leniency.specs.Held.{Terms, held_among}
+use Rattle.world_sessions.specs.declared.deliveries.session.Session.{Session}
+use Rattle.world_sessions.specs.leniency.Held.{Terms, held_among}
 use Rattle.world_routing.specs.World.{World}
 use Rattle.world.specs.Transition.{moved, transition, IsMoved, IsApplied}
 use Rattle.world.specs.Changes.{items_in}

@@ -6,3 +6,4 @@ pub mod Transition
 pub mod Changes
 pub mod Shown
 pub mod Holding
+pub mod copies

@@ -11,14 +11,14 @@ use Rattle.policy_ready.specs.declared.ready.User.{User}
 use Rattle.events.specs.declared.answer.Removed.{Removed}
 use Rattle.events.specs.declared.answer.Outcome.{Outcome}
 use Rattle.events.specs.declared.answer.Outcome.TheVariants.{Reloaded}
-use Rattle.world_deliveries.specs.Sessions.{session_of}
+use Rattle.world_sessions.specs.deliveries.Sessions.{session_of}
 use Rattle.world_sessions.specs.Renewal.{remaining, closed_conns, HaveOneUser}
-use Rattle.world_deliveries.specs.declared.session.Session.{Session}
+use Rattle.world_sessions.specs.declared.deliveries.session.Session.{Session}
 use Rattle.world_rows.specs.declared.subscription.Subscription.{Subscription}
 use Rattle.service_routes.specs.Routes.{kept, pruned}
-use Rattle.service_rows.specs.Rows.{renewed}
+use Rattle.service_routes.specs.service_rows.Rows.{renewed}
 use Rattle.world_routing.specs.World.{World}
-pub use Rattle.world_marks.specs.Again.{user_after}
+pub use Rattle.world_routing.specs.marks.Again.{user_after}
 
 -- the verdict on a subscription, with its queue, where there is a user
 abbrev pub verdict_for : Option User → Subscription → Option Verdict

@@ -1,10 +1,10 @@
 -- What the world shows of its tables.
 use Rattle.std.specs.Prelude.{ℕ, Bool, length, Option}
 use Rattle.std.specs.Option.{option_map}
-use Rattle.world_deliveries.specs.Sessions.{session_of}
-use Rattle.world_deliveries.specs.declared.session.Session.{Session}
+use Rattle.world_sessions.specs.deliveries.Sessions.{session_of}
+use Rattle.world_sessions.specs.declared.deliveries.session.Session.{Session}
 use Rattle.world_routing.specs.World.{World}
-pub use Rattle.world_copies.specs.Shown.{standing_of}
+pub use Rattle.world.specs.copies.Shown.{standing_of}
 
 -- how much waits in a session's outbox, and whether a delivery was missed
 abbrev pub waiting_in : Session → ℕ × Bool

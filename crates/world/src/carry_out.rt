@@ -1,25 +1,23 @@
 //! What was decided is done.
 ghost use Rattle.std.specs.Prelude.{◌≡◌};
 ghost use Rattle.service_routes.specs.Routes.{kept, pruned};
-ghost use Rattle.service_rows.specs.Rows.{renewed};
+ghost use Rattle.service_routes.specs.service_rows.Rows.{renewed};
 
 use crate::change::Change;
 use crate::reload::remove_lost;
 use crate::world::World;
 use base::{Boxed, NoMemory};
-use deny_marks::DenyMarks;
 use events::{Outcome, Sid};
+use permissions::deny_marks::DenyMarks;
 use policy_ready::{Ready, User};
 use service_routes::Routes;
-use service_rows::RenewedRows;
+use service_routes::service_rows::RenewedRows;
 use std::collections::VecDeque;
-use world_leniency::items_in;
-use world_marks::{mark_next, trim_marks};
-use world_receivers::Receivers;
-use world_routing::{Deliveries, Routing, carry_publish};
+use world_routing::marks::{mark_next, trim_marks};
+use world_routing::{Deliveries, Receivers, Routing, carry_publish, change_routes};
 use world_sessions::Session;
+use world_sessions::leniency::items_in;
 use world_subscriptions::NewSubscription;
-use world_views::change_routes;
 
 impl World {
     ghost use Rattle.std.specs.Prelude.{◌≡◌, ◌<◌, ◌≤◌, ◌+◌, OnOk, OnErr, All};
@@ -27,7 +25,7 @@ impl World {
     ghost use Rattle.std.specs.List.{filter_map};
     ghost use Rattle.events.specs.declared.answer.Outcome.{Outcome};
     ghost use Rattle.world_sessions.specs.Renewal.{remaining, user_again_of};
-    ghost use Rattle.receiver_views.specs.Marked.{AreMarked};
+    ghost use Rattle.receivers.specs.views.Marked.{AreMarked};
     ghost use Rattle.world.specs.Reload.{AllMayStand};
     ghost use Rattle.world.specs.Changes.{done, lost_id, pruned_world, IsFit};
     ghost use Rattle.world.specs.declared.change.Change.TheVariants as change;

@@ -1,7 +1,7 @@
 //! What a command comes to is decided first, and then done.
 use base::Boxed;
-use deny_marks::DenyMarks;
 use events::{Outcome, Sid};
+use permissions::deny_marks::DenyMarks;
 use policy_ready::{Ready, User};
 use std::collections::VecDeque;
 use world_routing::{Deliveries, Routing};

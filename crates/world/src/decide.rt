@@ -12,7 +12,7 @@ use permissions::Verdict;
 use policy_ready::Ready;
 use std::alloc::Global;
 use subjects::{Pattern, Subject};
-use world_marks::{Renewing, marks_again};
+use world_routing::marks::{Renewing, marks_again};
 use world_routing::{Plan, Publish, plan_publish};
 use world_sessions::Session;
 use world_subscriptions::NewSubscription;

@@ -1,8 +1,10 @@
-//! The world: the tables of the router, and what one event makes of them.
+//! The world: the tables of the router, and what one event makes of them. It knows no history, no thread and no connection's
+//! bytes.
 #![tactic(auto)]
 
 mod carry_out;
 mod change;
+pub mod copies;
 mod decide;
 mod plain;
 mod reload;

@@ -1,10 +1,10 @@
 //! The world as it was at a moment.
+use crate::copies::{PlainSession, PlainSubscription, plain_sessions, plain_subscriptions};
 use crate::world::World;
 use base::{Alike, Copying, Items, NoMemory};
 use policy_ready::Ready;
 use service_routes::NamedExporter;
 use std::marker::Model;
-use world_copies::{PlainSession, PlainSubscription, plain_sessions, plain_subscriptions};
 
 /// A world as it was at a moment. A clause sees the world. What the tables share it shares: texts, policies and
 /// messages have one more owner.

@@ -6,7 +6,7 @@ ghost use Rattle.world_sessions.specs.Renewal.{AreSameLists};
 ghost use Rattle.policy_doc.specs.Accounts.{IsByName};
 ghost use Rattle.policy_doc.specs.Document.{IsValidPolicy};
 ghost use Rattle.policy_doc.specs.declared.document.PolicyDoc.{PolicyDoc};
-ghost use Rattle.world_deliveries.specs.declared.session.Session.{Session};
+ghost use Rattle.world_sessions.specs.declared.deliveries.session.Session.{Session};
 ghost use Rattle.world.specs.Changes.{lost_id};
 ghost use Rattle.world.specs.Reload.{user_after, verdict_after, verdict_before, may_stand, stands_on, removed_by, removal_after, AllMayStand, IsReasonedVerdict};
 
@@ -127,7 +127,7 @@ pub(crate) fn is_valid(ready: &Ready)
 
 /// Returns the subscriptions that don't stand on. Only those of users whose subscribe lists change are judged: the
 /// others may stand as they are. `same` is what `Sessions::same_lists` gives for the policy.
-#[tactic(auto, using(world_groups::proofs::Lists::filter_map_first))]
+#[tactic(auto, using(world_subscriptions::proofs::groups::Lists::filter_map_first))]
 pub(crate) fn lost_by(
     alloc: Global,
     ready: &Ready,

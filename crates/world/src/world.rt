@@ -1,5 +1,6 @@
 //! The tables, and one step of them.
 use crate::change::{Change, Decided};
+use crate::copies::{Standing, standing_all};
 use crate::decide::SESSIONS;
 use crate::reload::is_valid;
 use base::{Copying, Items, NoMemory, Shared};
@@ -9,10 +10,9 @@ use service_routes::Routes;
 use std::alloc::Global;
 use std::hash::RandomState;
 use std::marker::Model;
-use world_copies::{Standing, standing_all};
-use world_leniency::{Lenient, LenientToAll, items_in, note_held};
 use world_routing::Caches;
 use world_sessions::Sessions;
+use world_sessions::leniency::{Lenient, LenientToAll, items_in, note_held};
 use world_subscriptions::Subscriptions;
 
 /// The tables: the policy in force, the sessions with their outboxes, the standing subscriptions and the response routes. A clause sees
@@ -38,10 +38,10 @@ pub struct World {
 
 impl Model for World {
     ghost use Rattle.std.specs.Prelude.{◌≤◌};
-    ghost use Rattle.imports.specs.Views.{rows_of};
+    ghost use Rattle.policy_ready.specs.imports.Views.{rows_of};
     ghost use Rattle.service_routes.specs.Routes.{pruned};
-    ghost use Rattle.receiver_cache.specs.Cached.{IsCurrent};
-    ghost use Rattle.receiver_views.specs.Marked.{AreMarked};
+    ghost use Rattle.receivers.specs.cache.Cached.{IsCurrent};
+    ghost use Rattle.receivers.specs.views.Marked.{AreMarked};
     ghost use Rattle.world_routing.specs.Remembered.{AreRemembered};
     ghost use Rattle.world_routing.specs.World as worlds;
 
@@ -65,8 +65,8 @@ impl World {
     ghost use Rattle.std.specs.Prelude.{◌≡◌, ◌==◌, ◌<◌, ◌≤◌, ◌+◌, ℕ, Ok, [], false, IfOk, IfErr, OnErr, All, map};
     ghost use Rattle.policy_doc.specs.Accounts.{IsByName};
     ghost use Rattle.events.specs.declared.answer.Outcome.{Outcome};
-    ghost use Rattle.world_deliveries.specs.Sessions.{session_of};
-    ghost use Rattle.world_deliveries.specs.declared.session.Session.{Session};
+    ghost use Rattle.world_sessions.specs.deliveries.Sessions.{session_of};
+    ghost use Rattle.world_sessions.specs.declared.deliveries.session.Session.{Session};
     ghost use Rattle.world_rows.specs.declared.subscription.Subscription.{Subscription};
     ghost use Rattle.world_routing.specs.World as worlds;
     ghost use Rattle.world_routing.specs.World.{opening_world, advanced};

@@ -11,20 +11,20 @@ use Rattle.permissions.specs.declared.verdict.Verdict.{Verdict}
 use Rattle.permissions.specs.declared.verdict.Verdict.TheVariants.{Allowed, DeniedBy, NoAllow, NoQueueAllow}
 use Rattle.events.specs.Messages.{Message}
 use Rattle.events.specs.declared.answer.Addressed.{Addressed}
-use Rattle.imports.specs.Across.{views}
-use Rattle.imports.specs.Views.{is_route, rows_of}
-use Rattle.imports.specs.declared.view.ViewItem.{ViewItem}
+use Rattle.policy_ready.specs.imports.Across.{views}
+use Rattle.policy_ready.specs.imports.Views.{is_route, rows_of}
+use Rattle.policy_ready.specs.declared.imports.view.ViewItem.{ViewItem}
 use Rattle.service_exporter.specs.Routes.{Exporter}
 use Rattle.service_routes.specs.Routes.{Name, spent}
-use Rattle.world_deliveries.specs.Sessions.{session_of}
-use Rattle.world_deliveries.specs.Replying.{is_granted}
-use Rattle.world_deliveries.specs.declared.session.Session.{Session}
+use Rattle.world_sessions.specs.deliveries.Sessions.{session_of}
+use Rattle.world_sessions.specs.deliveries.Replying.{is_granted}
+use Rattle.world_sessions.specs.declared.deliveries.session.Session.{Session}
 use Rattle.world_subscriptions.specs.Limit.{unended}
 use Rattle.world_subscriptions.specs.Kept.{Apart}
 use Rattle.world_rows.specs.declared.subscription.Subscription.{Subscription}
-use Rattle.receiver_cache.specs.Cached.{IsAllowed, IsAloneAt, IsAloneOf, IsOfLists}
-use Rattle.receiver_views.specs.CachedViews.{others_with}
-use Rattle.world_receivers.specs.Standing.{addressed_behind_in}
+use Rattle.receivers.specs.cache.Cached.{IsAllowed, IsAloneAt, IsAloneOf, IsOfLists}
+use Rattle.receivers.specs.views.CachedViews.{others_with}
+use Rattle.world_views.specs.addressing.Standing.{addressed_behind_in}
 use Rattle.world_routing.specs.World.{World}
 use Rattle.world_views.specs.Changing.{opened_each}
 use Rattle.world_routing.specs.Granting.{or_granted, verdict_on}
@@ -35,13 +35,13 @@ use Rattle.world_routing.specs.Publishing.{IsPlanned, IsRefusal, IsToldPlan, in_
 use Rattle.events.specs.declared.refusal.HubRefusal.{HubRefusal}
 use Rattle.events.specs.declared.refusal.HubRefusal.TheVariants as refusal
 use Rattle.account_mappings.specs.Drawing.{mapped_by}
-use Rattle.imports.specs.declared.rows.ImportRow.{ImportRow}
+use Rattle.policy_ready.specs.declared.imports.rows.ImportRow.{ImportRow}
 use Rattle.world_routing.specs.declared.planning.Plan.{Plan}
 use Rattle.world_views.proofs.InTurn.{spent_elsewhere}
 use Rattle.world_routing.proofs.Publishing.{planned_publish, planned_told, planned_unmapped, publish_reason}
 use Rattle.world_views.proofs.Seeing.{no_response_elsewhere}
 use Rattle.world_views.proofs.Addressed.{unsaid_after}
-use Rattle.world_receivers.proofs.Left.{own_first}
+use Rattle.world_views.proofs.addressing.Left.{own_first}
 
 abbrev by_in : Verdict → By
 by_in (Allowed by) = by

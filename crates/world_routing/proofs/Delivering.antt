@@ -4,10 +4,10 @@ use Rattle.events.specs.Messages.{Message}
 use Rattle.events.specs.declared.answer.Addressed.{Addressed}
 use Rattle.events.specs.declared.answer.Item.{Item}
 use Rattle.events.specs.declared.answer.Item.TheVariants.{Entered, Full, RouteFull, MapTooLong, Unmapped, MappedTooLong}
-use Rattle.world_deliveries.specs.Sessions.{session_of, with_session}
-use Rattle.world_deliveries.specs.Delivered.{delivered, after_offer, item_of, has_room}
-use Rattle.world_deliveries.specs.Replying.{noted_for, responding, ending}
-use Rattle.world_deliveries.specs.declared.session.Session.{Session}
+use Rattle.world_sessions.specs.deliveries.Sessions.{session_of, with_session}
+use Rattle.world_sessions.specs.deliveries.Delivered.{delivered, after_offer, item_of, has_room}
+use Rattle.world_sessions.specs.deliveries.Replying.{noted_for, responding, ending}
+use Rattle.world_sessions.specs.declared.deliveries.session.Session.{Session}
 use Rattle.world_subscriptions.specs.Addressing.{addressed_to}
 use Rattle.world_subscriptions.specs.Changes.{only, bumped}
 use Rattle.world_subscriptions.specs.Limit.{has_ended, unended, counted}
@@ -15,7 +15,7 @@ use Rattle.world_subscriptions.specs.Counting.{Tells, TellEach, entered_ids, in_
 use Rattle.world_subscriptions.specs.Kept.{Apart}
 use Rattle.world_rows.specs.declared.subscription.Subscription.{Subscription}
 use Rattle.world_subscriptions.proofs.Apart.{counted_for, apart_changed, bumped-leaves}
-use Rattle.receiver_cache.proofs.Stays.{AreSeated, seats_with, seats_after, seats_delivered}
+use Rattle.receivers.proofs.cache.Stays.{AreSeated, seats_with, seats_after, seats_delivered}
 use Rattle.world_routing.specs.Handing.{handed_over}
 use Rattle.world_routing.specs.declared.granted_response.GrantedResponse.{GrantedResponse}
 

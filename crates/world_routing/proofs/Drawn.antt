@@ -6,17 +6,17 @@ use Rattle.account_mappings.specs.declared.drawing.Mapped.TheVariants.{Same, To,
 use Rattle.policy_doc.specs.declared.document.PolicyDoc.{PolicyDoc}
 use Rattle.events.specs.Messages.{Message}
 use Rattle.events.specs.declared.answer.Addressed.{Addressed}
-use Rattle.imports.specs.Across.{views}
-use Rattle.imports.specs.Views.{rows_of}
-use Rattle.imports.specs.declared.view.ViewItem.{ViewItem}
+use Rattle.policy_ready.specs.imports.Across.{views}
+use Rattle.policy_ready.specs.imports.Views.{rows_of}
+use Rattle.policy_ready.specs.declared.imports.view.ViewItem.{ViewItem}
 use Rattle.service_exporter.specs.Routes.{Exporter}
 use Rattle.service_routes.specs.Routes.{Name, spent}
-use Rattle.world_deliveries.specs.declared.session.Session.{Session}
+use Rattle.world_sessions.specs.declared.deliveries.session.Session.{Session}
 use Rattle.world_rows.specs.declared.subscription.Subscription.{Subscription}
-use Rattle.receiver_cache.specs.Drawn.{IsSentOn, subject_of}
-use Rattle.receiver_views.specs.CachedViews.{addressed_in_each, others_in, others_with, under_subject}
-use Rattle.world_receivers.specs.Standing.{addressed_behind_in}
-use Rattle.world_receivers.proofs.Behind.{view_told}
+use Rattle.receivers.specs.cache.Drawn.{IsSentOn, subject_of}
+use Rattle.receivers.specs.views.CachedViews.{addressed_in_each, others_in, others_with, under_subject}
+use Rattle.world_views.specs.addressing.Standing.{addressed_behind_in}
+use Rattle.world_views.proofs.addressing.Behind.{view_told}
 use Rattle.world_views.specs.Changing.{opened_each}
 use Rattle.world_routing.specs.Publishing.{IsElsewhere}
 use Rattle.world_views.specs.Requests.{responses_on}

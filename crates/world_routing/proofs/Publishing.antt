@@ -13,14 +13,14 @@ use Rattle.events.specs.declared.answer.Addressed.{Addressed}
 use Rattle.events.specs.declared.answer.Item.{Item}
 use Rattle.events.specs.declared.answer.Outcome.{Outcome}
 use Rattle.events.specs.declared.answer.Outcome.TheVariants.{Published}
-use Rattle.imports.specs.Across.{views}
-use Rattle.imports.specs.declared.view.ViewItem.{ViewItem}
-use Rattle.world_deliveries.specs.Sessions.{session_of, with_session}
-use Rattle.world_deliveries.specs.Delivered.{delivered, room_in}
-use Rattle.world_deliveries.specs.Planned.{rooms_of, planned}
-use Rattle.world_deliveries.specs.Replying.{noted_for, responding}
-use Rattle.world_deliveries.specs.declared.session.Session.{Session}
-use Rattle.world_deliveries.proofs.Plans.{planned-delivered}
+use Rattle.policy_ready.specs.imports.Across.{views}
+use Rattle.policy_ready.specs.declared.imports.view.ViewItem.{ViewItem}
+use Rattle.world_sessions.specs.deliveries.Sessions.{session_of, with_session}
+use Rattle.world_sessions.specs.deliveries.Delivered.{delivered, room_in}
+use Rattle.world_sessions.specs.deliveries.Planned.{rooms_of, planned}
+use Rattle.world_sessions.specs.deliveries.Replying.{noted_for, responding}
+use Rattle.world_sessions.specs.declared.deliveries.session.Session.{Session}
+use Rattle.world_sessions.proofs.deliveries.Plans.{planned-delivered}
 use Rattle.world_subscriptions.specs.Limit.{unended}
 use Rattle.world_subscriptions.specs.Counting.{entered_ids, in_turn}
 use Rattle.world_subscriptions.specs.Kept.{Apart}
@@ -36,7 +36,7 @@ use Rattle.world_views.specs.Viewing.{Tables, Publication, publication, Addressi
 use Rattle.world_views.specs.declared.across.Told.{Told}
 use Rattle.world_views.specs.declared.viewing.Report.{Report}
 use Rattle.world_routing.proofs.Together.{so_far, items_after, views_are, told_are, plain_is, entered_of}
-use Rattle.world_receivers.proofs.Left.{AllAgree, none_disagree}
+use Rattle.world_views.proofs.addressing.Left.{AllAgree, none_disagree}
 use Rattle.world_routing.specs.Publishing.{seen_as, seen_nowhere, mapped_to, published, in_session, published_by, tables_of, IsElsewhere, IsPlanOf, IsPlanned, IsToldPlan}
 use Rattle.world_routing.specs.declared.planning.Elsewhere.{Elsewhere}
 use Rattle.world_routing.specs.declared.planning.Elsewhere.TheVariants.{Under, Nowhere}

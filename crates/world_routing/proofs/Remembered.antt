@@ -3,8 +3,8 @@ use Rattle.std.proofs.Common.{◌≡◌, ◌∙◌, ◌==◌, ◌∷◌, [], ℕ
 use Rattle.std.specs.Prelude.{find, All}
 use Rattle.std.proofs.Math.Bool.{and-false}
 use Rattle.std.proofs.lemmas.List.Elements.{All-head, All-tail}
-use Rattle.world_deliveries.specs.Sessions.{session_of}
-use Rattle.world_deliveries.specs.declared.session.Session.{Session}
+use Rattle.world_sessions.specs.deliveries.Sessions.{session_of}
+use Rattle.world_sessions.specs.declared.deliveries.session.Session.{Session}
 use Rattle.subjects.proofs.Text.{again}
 use Rattle.permissions.specs.Verdicts.{publish_verdict, is_allowed}
 use Rattle.permissions.specs.declared.verdict.By.TheVariants.{Grant}
@@ -13,7 +13,7 @@ use Rattle.permissions.specs.declared.verdict.Verdict.TheVariants.{Allowed}
 use Rattle.policy_doc.specs.declared.document.PolicyDoc.{PolicyDoc}
 use Rattle.policy_ready.specs.Users.{user_named}
 use Rattle.policy_ready.specs.declared.ready.User.{User}
-use Rattle.verdict_cache.specs.Verdicts.{Judges, publish_question}
+use Rattle.permissions.specs.verdict_cache.Verdicts.{Judges, publish_question}
 use Rattle.world_routing.specs.Granting.{or_granted}
 use Rattle.world_routing.specs.Remembered.{by_user, judged_by, AreOfPolicy}
 

@@ -3,32 +3,32 @@
 use Rattle.std.proofs.Common.{◌≡◌, ◌∙◌, ◌&&◌, ◌+◌, ◌-◌, ◌≤◌, ◌++◌, ◌∷◌, ℕ, suc, Bool, true, false, cond, List, [], Option, Some, None, nat_lt, length, map, filter, take, drop, ap, sym, refl, subst, arith}
 use Rattle.std.proofs.lemmas.List.{append-nil, append_assoc, length-append, length-map, map-append}
 use Rattle.subjects.specs.Subject.{Token}
-use Rattle.exports.specs.declared.document.Row.{Row}
+use Rattle.policy_doc.specs.declared.exports.document.Row.{Row}
 use Rattle.events.specs.Messages.{Message}
 use Rattle.events.specs.declared.answer.Addressed.{Addressed}
 use Rattle.events.specs.declared.answer.Item.{Item}
 use Rattle.events.specs.declared.answer.Item.TheVariants.{Entered, Full, RouteFull, MapTooLong, Unmapped, MappedTooLong}
-use Rattle.imports.specs.declared.view.ViewItem.{ViewItem}
-use Rattle.imports.specs.declared.view.ViewItem.TheVariants.{At, TooLong}
-use Rattle.imports.specs.declared.view.Way.TheVariants.{Own, Stream, Service, Response}
-use Rattle.world_deliveries.specs.Sessions.{session_of}
-use Rattle.world_deliveries.specs.Delivered.{delivered, after_offer, has_room}
-use Rattle.world_deliveries.specs.Planned.{planned, rooms_of, with_room}
-use Rattle.world_deliveries.specs.Replying.{noted_for}
-use Rattle.world_deliveries.specs.declared.session.Session.{Session}
-use Rattle.world_deliveries.proofs.Plans.{planned-delivered}
+use Rattle.policy_ready.specs.declared.imports.view.ViewItem.{ViewItem}
+use Rattle.policy_ready.specs.declared.imports.view.ViewItem.TheVariants.{At, TooLong}
+use Rattle.policy_ready.specs.declared.imports.view.Way.TheVariants.{Own, Stream, Service, Response}
+use Rattle.world_sessions.specs.deliveries.Sessions.{session_of}
+use Rattle.world_sessions.specs.deliveries.Delivered.{delivered, after_offer, has_room}
+use Rattle.world_sessions.specs.deliveries.Planned.{planned, rooms_of, with_room}
+use Rattle.world_sessions.specs.deliveries.Replying.{noted_for}
+use Rattle.world_sessions.specs.declared.deliveries.session.Session.{Session}
+use Rattle.world_sessions.proofs.deliveries.Plans.{planned-delivered}
 use Rattle.world_subscriptions.specs.Addressing.{addressed_to}
 use Rattle.world_subscriptions.specs.Counting.{entered_ids, in_turn}
 use Rattle.world_subscriptions.specs.Kept.{Apart}
 use Rattle.world_subscriptions.specs.Limit.{unended}
 use Rattle.world_subscriptions.specs.Subscriptions.{has_subject}
 use Rattle.world_rows.specs.declared.subscription.Subscription.{Subscription}
-use Rattle.world_groups.specs.Served.{served, is_served}
-use Rattle.receiver_views.specs.Open.{is_open}
-use Rattle.world_receivers.specs.Standing.{stands_behind, standing_among, addressed_behind_in, is_for_nobody, is_nil}
-use Rattle.world_receivers.proofs.Left.{AllAgree, admitted_made, all_agree_append, addressed_agree, addressed_left, passing_left, standing_same}
-use Rattle.receiver_views.proofs.Tests.{both}
-use Rattle.world_receivers.proofs.Left.{nil_map}
+use Rattle.world_subscriptions.specs.groups.Served.{served, is_served}
+use Rattle.receivers.specs.views.Open.{is_open}
+use Rattle.world_views.specs.addressing.Standing.{stands_behind, standing_among, addressed_behind_in, is_for_nobody, is_nil}
+use Rattle.world_views.proofs.addressing.Left.{AllAgree, admitted_made, all_agree_append, addressed_agree, addressed_left, passing_left, standing_same}
+use Rattle.receivers.proofs.views.Tests.{both}
+use Rattle.world_views.proofs.addressing.Left.{nil_map}
 use Rattle.world_routing.specs.World.{World}
 use Rattle.service_exporter.specs.Limit.{is_full}
 use Rattle.service_exporter.specs.Routes.{Exporter}

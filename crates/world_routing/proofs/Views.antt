@@ -2,16 +2,16 @@
 use Rattle.std.proofs.Common.{◌≡◌, ◌∙◌, ◌&&◌, ℕ, List, ◌++◌, map, ap, sym, subst}
 use Rattle.events.specs.declared.answer.Addressed.{Addressed}
 use Rattle.events.specs.declared.answer.Item.{Item}
-use Rattle.world_deliveries.specs.Delivered.{delivered}
-use Rattle.world_deliveries.specs.Replying.{noted_for}
-use Rattle.world_deliveries.specs.declared.session.Session.{Session}
+use Rattle.world_sessions.specs.deliveries.Delivered.{delivered}
+use Rattle.world_sessions.specs.deliveries.Replying.{noted_for}
+use Rattle.world_sessions.specs.declared.deliveries.session.Session.{Session}
 use Rattle.world_subscriptions.specs.Addressing.{addressed_to}
 use Rattle.world_subscriptions.specs.Limit.{unended, counted}
 use Rattle.world_subscriptions.specs.Counting.{TellEach, entered_ids, in_turn}
 use Rattle.world_subscriptions.specs.Kept.{Apart}
 use Rattle.world_rows.specs.declared.subscription.Subscription.{Subscription}
-use Rattle.receiver_views.proofs.Tests.{both}
-use Rattle.world_groups.specs.Served.{is_served}
+use Rattle.receivers.proofs.views.Tests.{both}
+use Rattle.world_subscriptions.specs.groups.Served.{is_served}
 use Rattle.world_routing.specs.World.{World}
 use Rattle.world_routing.specs.Routing.{View, is_admitted, admitted, deliveries, routed}
 use Rattle.world_routing.specs.Handing.{met, left_by}

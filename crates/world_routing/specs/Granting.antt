@@ -6,9 +6,9 @@ use Rattle.permissions.specs.declared.verdict.By.{By}
 use Rattle.permissions.specs.declared.verdict.By.TheVariants.{All as AllowsAll, Index, Grant}
 use Rattle.permissions.specs.declared.verdict.Verdict.{Verdict}
 use Rattle.permissions.specs.declared.verdict.Verdict.TheVariants.{Allowed}
-use Rattle.world_deliveries.specs.Sessions.{with_session}
-use Rattle.world_deliveries.specs.Replying.{is_granted, responding, ending}
-use Rattle.world_deliveries.specs.declared.session.Session.{Session}
+use Rattle.world_sessions.specs.deliveries.Sessions.{with_session}
+use Rattle.world_sessions.specs.deliveries.Replying.{is_granted, responding, ending}
+use Rattle.world_sessions.specs.declared.deliveries.session.Session.{Session}
 
 -- what the lists refuse, a deny entry included, a live grant allows
 abbrev pub or_granted : Bool → Verdict → Verdict

@@ -6,10 +6,10 @@ use Rattle.events.specs.Messages.{Message}
 use Rattle.events.specs.declared.answer.Addressed.{Addressed}
 use Rattle.events.specs.declared.answer.Item.{Item}
 use Rattle.events.specs.declared.answer.Item.TheVariants.{Entered, Full, RouteFull, MapTooLong, Unmapped, MappedTooLong}
-use Rattle.world_deliveries.specs.Sessions.{with_session}
-use Rattle.world_deliveries.specs.Delivered.{delivered}
-use Rattle.world_deliveries.specs.Replying.{responding, ending}
-use Rattle.world_deliveries.specs.declared.session.Session.{Session}
+use Rattle.world_sessions.specs.deliveries.Sessions.{with_session}
+use Rattle.world_sessions.specs.deliveries.Delivered.{delivered}
+use Rattle.world_sessions.specs.deliveries.Replying.{responding, ending}
+use Rattle.world_sessions.specs.declared.deliveries.session.Session.{Session}
 use Rattle.world_subscriptions.specs.Counting.{entered_ids, in_turn}
 use Rattle.world_rows.specs.declared.subscription.Subscription.{Subscription}
 use Rattle.world_routing.specs.World.{World}

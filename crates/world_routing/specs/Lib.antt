@@ -4,3 +4,7 @@ pub mod Granting
 pub mod Handing
 pub mod Publishing
 pub mod Remembered
+pub mod marks
+pub use Rattle.world_views.specs.Changing
+pub use Rattle.world_views.specs.Requests
+pub use Rattle.world_views.specs.Viewing

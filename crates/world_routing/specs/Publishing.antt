@@ -16,17 +16,17 @@ use Rattle.events.specs.declared.answer.Outcome.{Outcome}
 use Rattle.events.specs.declared.answer.Outcome.TheVariants.{Denied, Published}
 use Rattle.events.specs.declared.refusal.HubRefusal.{HubRefusal}
 use Rattle.events.specs.declared.refusal.HubRefusal.TheVariants as refusal
-use Rattle.world_deliveries.specs.Sessions.{session_of}
-use Rattle.world_deliveries.specs.declared.session.Session.{Session}
+use Rattle.world_sessions.specs.deliveries.Sessions.{session_of}
+use Rattle.world_sessions.specs.declared.deliveries.session.Session.{Session}
 use Rattle.world_routing.specs.World.{World}
-use Rattle.imports.specs.declared.rows.ImportRow.{ImportRow}
-use Rattle.receiver_cache.specs.Cached.{IsCurrent}
-use Rattle.receiver_cache.specs.declared.cache.ReceiverCache.{ReceiverCache}
+use Rattle.policy_ready.specs.declared.imports.rows.ImportRow.{ImportRow}
+use Rattle.receivers.specs.cache.Cached.{IsCurrent}
+use Rattle.receivers.specs.declared.cache.cache.ReceiverCache.{ReceiverCache}
 use Rattle.service_exporter.specs.Routes.{Exporter}
 use Rattle.service_routes.specs.Routes.{Name}
 use Rattle.world_rows.specs.declared.subscription.Subscription.{Subscription}
 use Rattle.world_routing.specs.Granting.{verdict_on, counted_on, ended_on}
-use Rattle.imports.specs.Across.{views}
+use Rattle.policy_ready.specs.imports.Across.{views}
 use Rattle.service_routes.specs.Routes.{spent}
 use Rattle.world_routing.specs.Routing.{in_views, under_subject}
 use Rattle.world_views.specs.Requests.{responses_on}
@@ -38,8 +38,8 @@ use Rattle.world_routing.specs.declared.carrying.Deliveries.{Deliveries}
 use Rattle.world_routing.specs.declared.planning.Elsewhere.{Elsewhere}
 use Rattle.world_routing.specs.declared.planning.Elsewhere.TheVariants.{Under, Nowhere}
 use Rattle.world_routing.specs.declared.granted_response.GrantedResponse.{GrantedResponse}
-use Rattle.world_deliveries.specs.Delivered.{delivered}
-use Rattle.world_deliveries.specs.Replying.{noted_for}
+use Rattle.world_sessions.specs.deliveries.Delivered.{delivered}
+use Rattle.world_sessions.specs.deliveries.Replying.{noted_for}
 use Rattle.world_routing.specs.declared.planning.Plan.{Plan}
 use Rattle.world_routing.specs.declared.planning.Plan.TheVariants.{Refused, ToNobody, ToSome, OnRoutes}
 

@@ -10,11 +10,11 @@ use Rattle.permissions.specs.declared.verdict.Verdict.TheVariants.{NoAllow}
 use Rattle.policy_doc.specs.declared.document.PolicyDoc.{PolicyDoc}
 use Rattle.policy_ready.specs.Users.{user_named}
 use Rattle.policy_ready.specs.declared.ready.User.{User}
-use Rattle.verdict_cache.specs.Verdicts.{AreJudged, Judgement, Question}
-use Rattle.verdict_cache.specs.declared.asked.Action.{Action}
-use Rattle.verdict_cache.specs.declared.asked.Action.TheVariants.{Publish, Subscribe, Deliver}
-use Rattle.verdict_cache.specs.declared.verdicts.Verdicts.{Verdicts}
-use Rattle.world_deliveries.specs.declared.session.Session.{Session}
+use Rattle.permissions.specs.verdict_cache.Verdicts.{AreJudged, Judgement, Question}
+use Rattle.permissions.specs.declared.verdict_cache.asked.Action.{Action}
+use Rattle.permissions.specs.declared.verdict_cache.asked.Action.TheVariants.{Publish, Subscribe, Deliver}
+use Rattle.permissions.specs.declared.verdict_cache.verdicts.Verdicts.{Verdicts}
+use Rattle.world_sessions.specs.declared.deliveries.session.Session.{Session}
 
 -- the verdict of lists on what is asked
 abbrev pub by_lists : Lists → Action → List ℕ → Option (List ℕ) → Verdict

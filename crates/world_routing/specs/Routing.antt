@@ -5,24 +5,24 @@ use Rattle.events.specs.Messages.{Message}
 use Rattle.events.specs.declared.answer.Addressed.{Addressed}
 use Rattle.events.specs.declared.answer.Item.{Item}
 use Rattle.events.specs.declared.answer.Item.TheVariants.{RouteFull, MapTooLong}
-use Rattle.exports.specs.declared.document.Row.{Row}
-use Rattle.imports.specs.declared.view.ViewItem.{ViewItem}
-use Rattle.imports.specs.declared.view.ViewItem.TheVariants.{At, TooLong}
-use Rattle.imports.specs.declared.view.Way.{Way}
-use Rattle.imports.specs.declared.view.Way.TheVariants.{Own, Stream, Service, Response}
+use Rattle.policy_doc.specs.declared.exports.document.Row.{Row}
+use Rattle.policy_ready.specs.declared.imports.view.ViewItem.{ViewItem}
+use Rattle.policy_ready.specs.declared.imports.view.ViewItem.TheVariants.{At, TooLong}
+use Rattle.policy_ready.specs.declared.imports.view.Way.{Way}
+use Rattle.policy_ready.specs.declared.imports.view.Way.TheVariants.{Own, Stream, Service, Response}
 use Rattle.service_exporter.specs.Limit.{is_full}
 use Rattle.service_routes.specs.Routes.{exporter_of, opened}
-use Rattle.world_deliveries.specs.Delivered.{delivered}
-use Rattle.world_deliveries.specs.Replying.{noted_for}
-use Rattle.world_deliveries.specs.declared.session.Session.{Session}
+use Rattle.world_sessions.specs.deliveries.Delivered.{delivered}
+use Rattle.world_sessions.specs.deliveries.Replying.{noted_for}
+use Rattle.world_sessions.specs.declared.deliveries.session.Session.{Session}
 use Rattle.world_subscriptions.specs.Subscriptions.{has_subject}
 use Rattle.world_subscriptions.specs.Addressing.{addressed_to}
 use Rattle.world_subscriptions.specs.Limit.{unended, counted}
 use Rattle.world_rows.specs.declared.subscription.Subscription.{Subscription}
-use Rattle.world_groups.specs.Served.{served}
-pub use Rattle.receiver_views.specs.Open.{lets_through, may_hear, is_open_to, is_open}
-pub use Rattle.world_receivers.specs.Standing.{is_nil}
-pub use Rattle.receiver_views.specs.CachedViews.{under_subject}
+use Rattle.world_subscriptions.specs.groups.Served.{served}
+pub use Rattle.receivers.specs.views.Open.{lets_through, may_hear, is_open_to, is_open}
+pub use Rattle.world_views.specs.addressing.Standing.{is_nil}
+pub use Rattle.receivers.specs.views.CachedViews.{under_subject}
 use Rattle.world_views.specs.Requests.{next_subject, route_for}
 use Rattle.world_routing.specs.World.{World}
 

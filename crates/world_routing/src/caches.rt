@@ -1,9 +1,9 @@
 //! What a publish remembers for the next ones.
-use deny_marks::DenyMarks;
+use permissions::deny_marks::DenyMarks;
+use permissions::verdict_cache::Verdicts;
 use std::alloc::Global;
 use std::hash::RandomState;
-use verdict_cache::Verdicts;
-use world_receivers::Receivers;
+use world_views::addressing::Receivers;
 
 /// What is kept so that publishes are answered faster: whom messages are for, verdicts of users' lists, and deny marks.
 pub struct Caches {
@@ -29,7 +29,7 @@ impl Drop for Caches {
 impl Caches {
     ghost use Rattle.std.specs.Prelude.{◌≡◌, []};
     ghost use Rattle.policy_doc.specs.declared.document.PolicyDoc.{PolicyDoc};
-    ghost use Rattle.receiver_cache.specs.Cached.{IsEmpty};
+    ghost use Rattle.receivers.specs.cache.Cached.{IsEmpty};
     ghost use Rattle.world_routing.specs.Remembered.{AreRemembered};
 
     /// Remembers nothing yet. It takes no memory.

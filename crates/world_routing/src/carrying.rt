@@ -1,17 +1,17 @@
 //! What was planned for a publish is done.
 ghost use Rattle.std.specs.Prelude.{◌≡◌, ◌≤◌, ◌⊎◌, List};
-ghost use Rattle.imports.specs.declared.rows.ImportRow.{ImportRow};
-ghost use Rattle.receiver_cache.specs.Cached.{IsCurrent, IsEmpty};
+ghost use Rattle.policy_ready.specs.declared.imports.rows.ImportRow.{ImportRow};
+ghost use Rattle.receivers.specs.cache.Cached.{IsCurrent, IsEmpty};
 ghost use Rattle.world_subscriptions.specs.Counting.{entered_ids, in_turn};
 ghost use Rattle.world_routing.specs.Handing.{handed_over};
 
 use crate::granted_response::GrantedResponse;
 use base::Items;
 use events::{Addressed, Item};
-use world_receivers::Receivers;
 use world_sessions::Sessions;
 use world_subscriptions::Subscriptions;
 use world_views::RouteChange;
+use world_views::addressing::Receivers;
 
 /// Deliveries that are to be handed over, of a message that may be an answer: oldest view first, and in each view the oldest
 /// subscription first.

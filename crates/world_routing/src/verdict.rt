@@ -5,10 +5,10 @@ ghost use Rattle.policy_ready.specs.Users.{user_named};
 ghost use Rattle.world_routing.specs.Granting.{verdict_on};
 ghost use Rattle.world_routing.specs.Remembered.{AreRemembered};
 
+use permissions::verdict_cache::Verdicts;
 use permissions::{By, Verdict};
 use policy_ready::Ready;
 use subjects::SubjectRef;
-use verdict_cache::Verdicts;
 use world_sessions::Session;
 
 /// Returns the verdict on a publish at a moment: the lists', and where they refuse, a live grant's. The lists' verdict may be one

@@ -5,8 +5,8 @@ use Rattle.std.proofs.lemmas.Bool.{ne_eqb, eq-eqb}
 use Rattle.std.proofs.lemmas.Bool.Decides.{nat_tests}
 use Rattle.std.proofs.lemmas.List.{length-append}
 use Rattle.std.proofs.lemmas.List.Elements.{All-head, All-tail}
-use Rattle.numbered_slots.specs.Slots.{entry_of, passes, AreAbove, AreBelow, AreRising, IsAbsent}
-use Rattle.numbered_slots.proofs.Places.{above_at, kept_slots, rising_set, entries-append}
+use Rattle.stores.specs.numbered_slots.Slots.{entry_of, passes, AreAbove, AreBelow, AreRising, IsAbsent}
+use Rattle.stores.proofs.numbered_slots.Places.{above_at, kept_slots, rising_set, entries-append}
 use Rattle.world_rows.specs.Limit.{has_ended}
 use Rattle.world_rows.specs.Changes.{is_id}
 use Rattle.world_rows.specs.Rows.{id_of, held, entries_in, AreEmpty, IsPlaceOf}

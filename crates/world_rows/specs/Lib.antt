@@ -1,3 +1,4 @@
 pub mod Changes
 pub mod Limit
 pub mod Rows
+pub mod ids

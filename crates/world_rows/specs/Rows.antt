@@ -1,6 +1,6 @@
 -- Subscriptions in rows by rising id, of which some are empty.
 use Rattle.std.specs.Prelude.{◌≡◌, ◌+◌, ℕ, List, Option, length}
-use Rattle.numbered_slots.specs.Slots as slots
+use Rattle.stores.specs.numbered_slots.Slots as slots
 use Rattle.world_rows.specs.declared.rows.Row.{Row}
 use Rattle.world_rows.specs.declared.subscription.Subscription.{Subscription}
 

@@ -1,7 +1,8 @@
-//! The rows in which subscriptions stand, by rising id: who asked for what, how many messages each has received, and its
-//! limit.
+//! The rows in which subscriptions stand, by rising id, and the ids by account and subject, and by connection and sid. It
+//! knows neither sessions nor permissions.
 #![tactic(auto)]
 
+pub mod ids;
 mod keeps;
 mod rows;
 mod shared;

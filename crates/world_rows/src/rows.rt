@@ -35,7 +35,7 @@ impl Row {
     ghost use Rattle.world_rows.specs.declared.subscription.Subscription.{Subscription};
     ghost use Rattle.world_rows.specs.Limit.{has_ended};
     ghost use Rattle.world_rows.specs.Changes.{bumped, capped};
-    ghost use Rattle.numbered_slots.specs.Slots.{passes};
+    ghost use Rattle.stores.specs.numbered_slots.Slots.{passes};
 
     /// Returns the subscription in it.
     fn get(&self) -> Option<&SharedSubscription>
@@ -254,7 +254,7 @@ impl Rows {
     ghost use Rattle.world_rows.specs.Changes.{bumped, capped, is_id};
 
     /// Returns rows without subscriptions.
-    #[tactic(auto, unfolding(numbered_slots::specs::Slots::AreRising))]
+    #[tactic(auto, unfolding(stores::specs::numbered_slots::Slots::AreRising))]
     pub fn new(alloc: Global) -> Rows
         ensures { result ≡ [] }
     {

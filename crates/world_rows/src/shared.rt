@@ -3,7 +3,7 @@ ghost use Rattle.std.specs.Prelude.{◌≡◌, IfOk};
 use crate::Subscription;
 use base::{NoMemory, Shared};
 use bytes::Bytes;
-use events::Sid;
+use messages::Sid;
 use std::alloc::Global;
 use std::marker::Model;
 use subjects::{Pattern, Subject};

@@ -1,6 +1,6 @@
 use base::Shared;
 use bytes::Bytes;
-use events::Sid;
+use messages::Sid;
 use subjects::{Pattern, Subject};
 
 /// A subscription that stands.

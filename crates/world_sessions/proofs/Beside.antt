@@ -4,9 +4,9 @@ use Rattle.std.specs.Prelude.{IsSomeAnd}
 use Rattle.std.proofs.lemmas.Bool.{ltb-true, ltb-false}
 use Rattle.std.proofs.lemmas.List.{length-append, get_or_push, get_or_append_left}
 use Rattle.policy_doc.specs.declared.document.PolicyDoc.{PolicyDoc}
-use Rattle.world_deliveries.specs.Sessions.{session_of, IsPlace}
+use Rattle.world_sessions.specs.deliveries.Sessions.{session_of, IsPlace}
 use Rattle.world_sessions.specs.Renewal.{HasSameLists, AreSameSoFar, AreSameLists}
-use Rattle.world_deliveries.specs.declared.session.Session.{Session}
+use Rattle.world_sessions.specs.declared.deliveries.session.Session.{Session}
 
 -- the answer at a connection's place is that of its session
 pub answer_at : (zs : List Session) (conn place : ℕ) (same : List Bool) (answer : Bool) → IsPlace conn zs place → get_or same place false ≡ answer →

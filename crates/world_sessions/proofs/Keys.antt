@@ -5,10 +5,10 @@ use Rattle.std.specs.List.{list_any, IsDistinct}
 use Rattle.std.proofs.lemmas.List.{length-map, length-set, get_or-map}
 use Rattle.std.proofs.lemmas.Bool.Decides.{Decides-eqb}
 use Rattle.std.proofs.lemmas.Map.Made.{AllPairs-from_IsDistinct}
-use Rattle.world_deliveries.specs.Sessions.{session_of, with_session, IsApart, IsPlace}
+use Rattle.world_sessions.specs.deliveries.Sessions.{session_of, with_session, IsApart, IsPlace}
 use Rattle.world_sessions.specs.Renewal.{connection_of}
-use Rattle.world_deliveries.specs.declared.session.Session.{Session}
-use Rattle.world_deliveries.proofs.Places.{eqb_comm}
+use Rattle.world_sessions.specs.declared.deliveries.session.Session.{Session}
+use Rattle.world_sessions.proofs.deliveries.Places.{eqb_comm}
 
 pub filter_keys : (p : ℕ → Bool) (zs : List Session) → filter p (map connection_of zs) ≡ map connection_of (filter (λ (z : Session). p z.conn) zs)
 filter_keys p [] = refl

@@ -6,12 +6,12 @@ use Rattle.std.specs.Option.{option_to_list}
 use Rattle.std.proofs.lemmas.List.{append_assoc, take_more_set, drop_more, drop-set-lt, length-map}
 use Rattle.std.proofs.lemmas.List.Kept.{AllPairs-filter}
 use Rattle.policy_doc.specs.declared.document.PolicyDoc.{PolicyDoc}
-use Rattle.world_deliveries.specs.Sessions.{IsApart}
+use Rattle.world_sessions.specs.deliveries.Sessions.{IsApart}
 use Rattle.world_sessions.specs.Renewal.{user_again_of, stays, with_user, with_users, renewed, remaining}
 use Rattle.policy_ready.specs.declared.ready.User.{User}
-use Rattle.world_deliveries.specs.declared.session.Session.{Session}
+use Rattle.world_sessions.specs.declared.deliveries.session.Session.{Session}
 use Rattle.world_sessions.proofs.Lists.{filter-fewer}
-use Rattle.world_deliveries.proofs.Changes.{apart-map}
+use Rattle.world_sessions.proofs.deliveries.Changes.{apart-map}
 
 with_users-none : (now : ℕ) (zs : List Session) → with_users now zs [] ≡ zs
 with_users-none now [] = refl

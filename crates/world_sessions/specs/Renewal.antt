@@ -5,8 +5,8 @@ use Rattle.policy_doc.specs.declared.document.PolicyDoc.{PolicyDoc}
 use Rattle.reply_grants.specs.Replies.{judged}
 use Rattle.policy_ready.specs.Users.{user_again}
 use Rattle.policy_ready.specs.declared.ready.User.{User}
-use Rattle.world_deliveries.specs.declared.session.Session.{Session}
-pub use Rattle.world_deliveries.specs.Sessions.{connection_of}
+use Rattle.world_sessions.specs.declared.deliveries.session.Session.{Session}
+pub use Rattle.world_sessions.specs.deliveries.Sessions.{connection_of}
 
 -- the user that a policy has in place of a session's
 abbrev pub user_again_of : PolicyDoc → Session → Option User

@@ -1,16 +1,16 @@
+use crate::deliveries::{ByConnection, place_in, plan_all, plan_one};
 use crate::same_lists::same_lists;
 use crate::{Session, renewal};
 use base::NoMemory;
 use events::{Addressed, Delivery, Met};
-use outbox::Batch;
 use policy_ready::{Ready, User};
 use std::alloc::Global;
 use std::collections::VecDeque;
 use std::hash::RandomState;
 use std::marker::Model;
+use stores::connections::Connections;
+use stores::outbox::Batch;
 use subjects::SubjectRef;
-use world_connections::Connections;
-use world_deliveries::{ByConnection, place_in, plan_all, plan_one};
 
 /// The sessions, each found by its connection at once. A clause sees them as a list, in order of connecting.
 #[derive(Drop)]
@@ -26,7 +26,7 @@ pub struct Sessions {
 impl Model for Sessions {
     ghost use Rattle.std.specs.Prelude.{◌≡◌, ◌≤◌, List, map, length};
     ghost use Rattle.world_sessions.specs.Renewal.{connection_of};
-    ghost use Rattle.world_deliveries.specs.declared.session.Session.{Session};
+    ghost use Rattle.world_sessions.specs.declared.deliveries.session.Session.{Session};
 
     ghost Value = { List Session };
 
@@ -40,9 +40,9 @@ impl Sessions {
     ghost use Rattle.std.specs.Bool.{Decides};
     ghost use Rattle.std.specs.List.{filter_map};
     ghost use Rattle.std.specs.Option.{option_copied};
-    ghost use Rattle.world_deliveries.specs.Sessions.{session_of, with_session, drained, front_of, IsApart, IsNowhere, IsPlace};
-    ghost use Rattle.world_deliveries.specs.Delivered.{delivered, after_offer};
-    ghost use Rattle.world_deliveries.specs.Replying.{noted_for, responding, ending};
+    ghost use Rattle.world_sessions.specs.deliveries.Sessions.{session_of, with_session, drained, front_of, IsApart, IsNowhere, IsPlace};
+    ghost use Rattle.world_sessions.specs.deliveries.Delivered.{delivered, after_offer};
+    ghost use Rattle.world_sessions.specs.deliveries.Replying.{noted_for, responding, ending};
     ghost use Rattle.world_sessions.specs.Renewal.{user_again_of, closed_conns, remaining, HasSameLists, HaveOneUser, AreSameLists};
     ghost use Rattle.policy_doc.specs.declared.document.PolicyDoc.{PolicyDoc};
 

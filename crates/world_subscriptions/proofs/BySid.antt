@@ -14,8 +14,8 @@ use Rattle.std.proofs.lemmas.List.{length-map}
 use Rattle.std.proofs.lemmas.List.Sorted.{length_permutation, list_any-IsPermutation}
 use Rattle.std.proofs.lemmas.Map.Entries.{length-values_of}
 use Rattle.world_rows.specs.declared.subscription.Subscription.{Subscription}
-use Rattle.world_ids.specs.declared.sids.Sids.{Sids}
-use Rattle.world_ids.specs.Sids.{Own, same_sid, own_of, id_in, id_under}
+use Rattle.world_rows.specs.declared.ids.sids.Sids.{Sids}
+use Rattle.world_rows.specs.ids.Sids.{Own, same_sid, own_of, id_in, id_under}
 use Rattle.world_subscriptions.specs.BySid.{id_of, IsWith, IsWithout, IsWithoutAll, AreSidsOf}
 use Rattle.world_subscriptions.specs.Changes.{only}
 use Rattle.world_subscriptions.specs.Index.{ids_of}

@@ -15,8 +15,8 @@ use Rattle.subjects.specs.Subject.{Token, same_token, in_set}
 use Rattle.sublist.specs.Tree.{same_path}
 use Rattle.sublist.specs.Pairs as pairs
 use Rattle.world_rows.specs.declared.subscription.Subscription.{Subscription}
-use Rattle.world_ids.specs.declared.trees.Trees.{Trees}
-use Rattle.world_ids.specs.Trees.{holds, IsSame, IsIndexOf}
+use Rattle.world_rows.specs.declared.ids.trees.Trees.{Trees}
+use Rattle.world_rows.specs.ids.Trees.{holds, IsSame, IsIndexOf}
 use Rattle.world_subscriptions.specs.Changes.{is_id, bumped, capped}
 use Rattle.world_subscriptions.specs.Index.{is_of, listed, IsWith, IsWithout, IsWithoutAll, AreIndexesOf, ids_of, if_any, found_by}
 use Rattle.world_subscriptions.specs.Kept.{IsAbove, IsKept, NoneLike, Apart}

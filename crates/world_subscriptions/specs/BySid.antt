@@ -1,8 +1,8 @@
 -- What the index by connection and sid holds of the subscriptions.
 use Rattle.std.specs.Prelude.{◌≡◌, ℕ, List, Option, None, cond, find}
 use Rattle.std.specs.Option.{option_map}
-use Rattle.world_ids.specs.Sids as sids
-use Rattle.world_ids.specs.declared.sids.Sids.{Sids}
+use Rattle.world_rows.specs.ids.Sids as sids
+use Rattle.world_rows.specs.declared.ids.sids.Sids.{Sids}
 use Rattle.world_rows.specs.declared.subscription.Subscription.{Subscription}
 use Rattle.world_subscriptions.specs.Subscriptions.{is_under, stands}
 

@@ -5,8 +5,8 @@ use Rattle.std.specs.List.{list_any}
 use Rattle.std.specs.Map.{values_of}
 use Rattle.subjects.specs.Subject.{Token, same_token}
 use Rattle.sublist.specs.Tree.{same_path}
-use Rattle.world_ids.specs.Trees as trees
-use Rattle.world_ids.specs.declared.trees.Trees.{Trees}
+use Rattle.world_rows.specs.ids.Trees as trees
+use Rattle.world_rows.specs.declared.ids.trees.Trees.{Trees}
 use Rattle.world_rows.specs.declared.subscription.Subscription.{Subscription}
 use Rattle.world_subscriptions.specs.Kept.{IsKept, Apart}
 

@@ -6,3 +6,6 @@ pub mod Kept
 pub mod Limit
 pub mod Subscriptions
 pub mod Counting
+pub mod queue_choice
+pub mod groups
+pub use Rattle.world_rows.specs.declared.subscription.Subscription

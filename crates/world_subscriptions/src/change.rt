@@ -3,8 +3,8 @@ ghost use Rattle.std.specs.Prelude.{◌≡◌, ◌==◌, ◌<◌, ◌++◌, ◌�
 ghost use Rattle.std.specs.HashMap.{values, IsUnique};
 ghost use Rattle.std.specs.Map.{lookup, remove_entry, values_of};
 ghost use Rattle.world_subscriptions.specs.Changes.{is_id};
-ghost use Rattle.world_ids.specs.Sids.{same_sid};
-ghost use Rattle.world_ids.specs.Trees.{IsSame};
+ghost use Rattle.world_rows.specs.ids.Sids.{same_sid};
+ghost use Rattle.world_rows.specs.ids.Trees.{IsSame};
 ghost use Rattle.world_rows.specs.declared.subscription.Subscription.{Subscription};
 ghost use Rattle.world_subscriptions.specs.BySid.{IsWithoutAll};
 ghost use Rattle.world_subscriptions.specs.Index.{IsTable, IsWithout, if_any};
@@ -13,8 +13,8 @@ ghost use Rattle.world_subscriptions.specs.Subscriptions.{stands};
 ghost use Rattle.world_subscriptions.specs.Counting.{is_one_of};
 
 use crate::{SharedSubscription, sids, trees};
-use world_ids::{Own, Sids, Trees};
 use world_rows::Rows;
+use world_rows::ids::{Own, Sids, Trees};
 
 /// Takes the subscription of that id out, and out of the trees. Returns it, if it stood.
 fn take_out(by_id: &mut Rows, trees: &mut Trees, id: u64) -> Option<SharedSubscription>

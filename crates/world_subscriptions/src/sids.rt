@@ -1,11 +1,11 @@
 //! The standing subscriptions in the index by connection and sid.
 ghost use Rattle.std.specs.Prelude.{OnOk, OnErr};
-ghost use Rattle.world_ids.specs.Sids.{IsSame};
+ghost use Rattle.world_rows.specs.ids.Sids.{IsSame};
 ghost use Rattle.world_subscriptions.specs.BySid.{IsWith, IsWithout};
 
 use crate::SharedSubscription;
 use base::NoMemory;
-use world_ids::Sids;
+use world_rows::ids::Sids;
 
 /// Adds the sid of a subscription. After `NoMemory` the sids are what they were.
 pub(crate) fn insert(sids: &mut Sids, subscription: &SharedSubscription) -> Result<(), NoMemory>

@@ -9,8 +9,8 @@ use std::alloc::Global;
 use std::hash::RandomState;
 use std::marker::Model;
 use subjects::SubjectRef;
-use world_ids::{Sids, Trees};
 use world_rows::Rows;
+use world_rows::ids::{Sids, Trees};
 
 /// How many subscriptions of a connection may stand.
 const SUBSCRIPTIONS: usize = 4096;

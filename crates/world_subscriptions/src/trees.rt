@@ -1,11 +1,11 @@
 //! The standing subscriptions in the trees of their accounts.
 ghost use Rattle.std.specs.Prelude.{OnOk, OnErr};
-ghost use Rattle.world_ids.specs.Trees.{IsSame};
+ghost use Rattle.world_rows.specs.ids.Trees.{IsSame};
 ghost use Rattle.world_subscriptions.specs.Index.{IsWith, IsWithout};
 
 use crate::SharedSubscription;
 use base::NoMemory;
-use world_ids::Trees;
+use world_rows::ids::Trees;
 
 /// Adds a subscription. After `NoMemory` the trees hold what they held.
 pub(crate) fn insert(trees: &mut Trees, subscription: &SharedSubscription) -> Result<(), NoMemory>

@@ -4,21 +4,21 @@ use Rattle.std.proofs.lemmas.List.{append-nil}
 use Rattle.std.proofs.lemmas.List.Elements.{All-append, All-map}
 use Rattle.std.specs.Global.{Vec}
 use Rattle.subjects.specs.Subject.{Token}
-use Rattle.exports.specs.declared.document.Row.{Row}
+use Rattle.policy_doc.specs.declared.exports.document.Row.{Row}
 use Rattle.events.specs.Messages.{Message}
 use Rattle.events.specs.declared.answer.Addressed.{Addressed}
-use Rattle.imports.specs.declared.rows.ImportRow.{ImportRow}
-use Rattle.imports.specs.declared.view.ViewItem.{ViewItem}
-use Rattle.imports.specs.declared.view.ViewItem.TheVariants.{At, TooLong}
-use Rattle.imports.specs.declared.view.Way.TheVariants.{Own, Stream, Service, Response}
+use Rattle.policy_ready.specs.declared.imports.rows.ImportRow.{ImportRow}
+use Rattle.policy_ready.specs.declared.imports.view.ViewItem.{ViewItem}
+use Rattle.policy_ready.specs.declared.imports.view.ViewItem.TheVariants.{At, TooLong}
+use Rattle.policy_ready.specs.declared.imports.view.Way.TheVariants.{Own, Stream, Service, Response}
 use Rattle.world_subscriptions.specs.Addressing.{addressed_to}
 use Rattle.world_rows.specs.declared.subscription.Subscription.{Subscription}
-use Rattle.world_groups.specs.Served.{served}
-use Rattle.receiver_views.specs.CachedViews.{IsSeen, AreSeen, addressed_in, addressed_in_each, others_in, under_subject, KnowsOthers}
-use Rattle.receiver_cache.specs.Cached.{TellsOthers}
-use Rattle.receiver_views.specs.declared.cached_view.CachedView.{CachedView}
-use Rattle.world_receivers.specs.Standing.{standing_among, addressed_behind_in}
-use Rattle.world_receivers.proofs.Behind.{view_told}
+use Rattle.world_subscriptions.specs.groups.Served.{served}
+use Rattle.receivers.specs.views.CachedViews.{IsSeen, AreSeen, addressed_in, addressed_in_each, others_in, under_subject, KnowsOthers}
+use Rattle.receivers.specs.cache.Cached.{TellsOthers}
+use Rattle.receivers.specs.declared.views.cached_view.CachedView.{CachedView}
+use Rattle.world_views.specs.addressing.Standing.{standing_among, addressed_behind_in}
+use Rattle.world_views.proofs.addressing.Behind.{view_told}
 use Rattle.world_views.specs.Viewing.{Tables, Publication, Addressing, addressing, seen, seen_with, request_in, effect_of, with_effect, addressed_after, reports_after}
 use Rattle.world_views.specs.declared.changing.Opening.{Opening}
 

@@ -2,7 +2,7 @@
 use Rattle.std.proofs.Common.{◌≡◌, ◌∙◌, ◌==◌, ◌&&◌, ◌∷◌, ℕ, List, [], false, Some, None, slice_get, ap, refl}
 use Rattle.std.specs.Str.{bytes_eq}
 use Rattle.subjects.specs.Subject.{Token, text_of}
-use Rattle.imports.specs.Views.{is_route}
+use Rattle.policy_ready.specs.imports.Views.{is_route}
 
 other_token : (b : ℕ) (bs : List ℕ) (first : ℕ) → b ≡ first → (first == 95) ≡ false → bytes_eq (b ∷ bs) (95 ∷ 82 ∷ 95 ∷ []) ≡ false
 other_token b bs first same other = ap (λ c. c && bytes_eq bs (82 ∷ 95 ∷ [])) (ap (λ n. n == 95) same ∙ other)

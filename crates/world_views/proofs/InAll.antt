@@ -3,13 +3,13 @@
 use Rattle.std.proofs.Common.{◌≡◌, ◌∙◌, ◌==◌, List, [], None, true, false, length, ap, sym, subst}
 use Rattle.subjects.specs.Subject.{Token}
 use Rattle.events.specs.declared.answer.Addressed.{Addressed}
-use Rattle.imports.specs.Views.{is_route, rows_of}
-use Rattle.imports.specs.declared.rows.ImportRow.{ImportRow}
-use Rattle.imports.specs.declared.view.ViewItem.{ViewItem}
+use Rattle.policy_ready.specs.imports.Views.{is_route, rows_of}
+use Rattle.policy_ready.specs.declared.imports.rows.ImportRow.{ImportRow}
+use Rattle.policy_ready.specs.declared.imports.view.ViewItem.{ViewItem}
 use Rattle.service_exporter.specs.Routes.{Exporter, route_on}
 use Rattle.service_routes.specs.Routes.{Name, exporter_of, pruned, spent}
-use Rattle.receiver_views.specs.CachedViews.{others_in, others_with}
-use Rattle.world_receivers.specs.Standing.{addressed_behind_in}
+use Rattle.receivers.specs.views.CachedViews.{others_in, others_with}
+use Rattle.world_views.specs.addressing.Standing.{addressed_behind_in}
 use Rattle.world_views.specs.Changing.{opened_each}
 use Rattle.world_views.specs.Requests.{responses_on}
 use Rattle.world_views.specs.Viewing.{Tables, Publication, Addressing, addressing, addressed_after, reports_after}

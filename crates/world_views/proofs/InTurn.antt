@@ -4,8 +4,8 @@ use Rattle.std.specs.Cmp.Lexicographic.{bytes_decides}
 use Rattle.std.proofs.lemmas.Bool.Decides.{nat_tests}
 use Rattle.std.proofs.lemmas.List.Elements.{All-head, All-tail}
 use Rattle.subjects.specs.Subject.{Token}
-use Rattle.imports.specs.Views.{is_route}
-use Rattle.service_subjects.specs.Names.{is_on}
+use Rattle.policy_ready.specs.imports.Views.{is_route}
+use Rattle.service_exporter.specs.service_subjects.Names.{is_on}
 use Rattle.service_exporter.specs.Limit.{is_full}
 use Rattle.service_exporter.specs.Routes.{Exporter, Numbered, ends_by, lives, route_on, spent_of}
 use Rattle.service_exporter.specs.declared.route.Route.{Route}

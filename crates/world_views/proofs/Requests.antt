@@ -3,12 +3,12 @@ use Rattle.std.proofs.Common.{◌≡◌, ◌∙◌, ◌+◌, ◌++◌, ◌∷◌
 use Rattle.std.proofs.lemmas.List.{append-nil}
 use Rattle.std.proofs.lemmas.List.Elements.{All-append, All-cons, All-nil}
 use Rattle.subjects.specs.Subject.{Token}
-use Rattle.exports.specs.declared.document.Row.{Row}
+use Rattle.policy_doc.specs.declared.exports.document.Row.{Row}
 use Rattle.events.specs.declared.answer.Addressed.{Addressed}
-use Rattle.service_subjects.specs.Names.{route_subject}
+use Rattle.service_exporter.specs.service_subjects.Names.{route_subject}
 use Rattle.service_exporter.specs.Routes.{Exporter}
 use Rattle.service_routes.specs.Routes.{Name, exporter_of}
-use Rattle.world_receivers.specs.Standing.{addressed_behind_in}
+use Rattle.world_views.specs.addressing.Standing.{addressed_behind_in}
 use Rattle.world_views.specs.Changing.{IsNotedAt}
 use Rattle.world_views.specs.Viewing.{Tables, Publication, Addressing, addressing, opening_for, seen_with, requested_if, with_effect, report, reports_by}
 use Rattle.world_views.specs.declared.changing.Opening.{Opening}

@@ -5,17 +5,17 @@ use Rattle.std.specs.List.{cons_option, filter_map}
 use Rattle.std.specs.Option.{option_map}
 use Rattle.subjects.specs.Subject.{Token}
 use Rattle.events.specs.declared.answer.Addressed.{Addressed}
-use Rattle.imports.specs.Across.{crossing}
-use Rattle.imports.specs.Views.{first_of_each, is_route, is_same}
-use Rattle.imports.specs.declared.rows.ImportRow.{ImportRow}
-use Rattle.imports.specs.declared.view.ViewItem.{ViewItem}
-use Rattle.imports.specs.declared.view.ViewItem.TheVariants.{At, TooLong}
-use Rattle.imports.specs.declared.view.Way.TheVariants.{Own, Stream, Service, Response}
+use Rattle.policy_ready.specs.imports.Across.{crossing}
+use Rattle.policy_ready.specs.imports.Views.{first_of_each, is_route, is_same}
+use Rattle.policy_ready.specs.declared.imports.rows.ImportRow.{ImportRow}
+use Rattle.policy_ready.specs.declared.imports.view.ViewItem.{ViewItem}
+use Rattle.policy_ready.specs.declared.imports.view.ViewItem.TheVariants.{At, TooLong}
+use Rattle.policy_ready.specs.declared.imports.view.Way.TheVariants.{Own, Stream, Service, Response}
 use Rattle.service_exporter.specs.Routes.{Exporter, route_on}
 use Rattle.service_exporter.specs.declared.route.Route.{Route}
 use Rattle.service_routes.specs.Routes.{Name, exporter_of}
-use Rattle.receiver_views.specs.CachedViews.{others_in, others_with}
-use Rattle.world_receivers.specs.Standing.{addressed_behind_in}
+use Rattle.receivers.specs.views.CachedViews.{others_in, others_with}
+use Rattle.world_views.specs.addressing.Standing.{addressed_behind_in}
 use Rattle.world_views.specs.Requests.{response_by, responses_on}
 use Rattle.world_views.specs.Viewing.{Tables, Publication, Addressing, addressing, addressed_after, reports_after, seen_with}
 use Rattle.world_views.proofs.InTurn.{routes_elsewhere}

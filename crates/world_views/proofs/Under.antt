@@ -2,14 +2,14 @@
 use Rattle.std.proofs.Common.{◌≡◌, ◌∙◌, ◌++◌, ◌∷◌, ℕ, Bool, true, false, List, [], Option, Some, None, ap, refl}
 use Rattle.subjects.specs.Subject.{Token}
 use Rattle.events.specs.Messages.{Message}
-use Rattle.exports.specs.declared.document.Row.{Row}
-use Rattle.imports.specs.declared.view.ViewItem.{ViewItem}
-use Rattle.imports.specs.declared.view.ViewItem.TheVariants.{At, TooLong}
-use Rattle.imports.specs.declared.view.Way.TheVariants.{Own, Stream, Service, Response}
+use Rattle.policy_doc.specs.declared.exports.document.Row.{Row}
+use Rattle.policy_ready.specs.declared.imports.view.ViewItem.{ViewItem}
+use Rattle.policy_ready.specs.declared.imports.view.ViewItem.TheVariants.{At, TooLong}
+use Rattle.policy_ready.specs.declared.imports.view.Way.TheVariants.{Own, Stream, Service, Response}
 use Rattle.service_exporter.specs.Routes.{Exporter}
 use Rattle.service_routes.specs.Routes.{Name}
-use Rattle.world_deliveries.specs.declared.session.Session.{Session}
-use Rattle.receiver_views.specs.CachedViews.{under_subject}
+use Rattle.world_sessions.specs.declared.deliveries.session.Session.{Session}
+use Rattle.receivers.specs.views.CachedViews.{under_subject}
 use Rattle.world_views.specs.Viewing.{Tables, Publication, Addressing, Effect, seen, reports, nothing, addressed_after, effect_of, publication, reports_after, reports_by, request_in, requested_if, with_effect}
 use Rattle.world_views.specs.declared.viewing.Report.{Report}
 

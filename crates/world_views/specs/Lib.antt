@@ -1,3 +1,4 @@
 pub mod Requests
 pub mod Changing
 pub mod Viewing
+pub mod addressing

@@ -3,16 +3,16 @@ use Rattle.std.specs.Prelude.{◌+◌, ℕ, List, []}
 use Rattle.std.specs.List.{cons_option}
 use Rattle.std.specs.Option.{option_map}
 use Rattle.subjects.specs.Subject.{Token}
-use Rattle.exports.specs.declared.document.Row.{Row}
-use Rattle.imports.specs.declared.view.ViewItem.{ViewItem}
-use Rattle.imports.specs.declared.view.ViewItem.TheVariants.{At}
-use Rattle.imports.specs.declared.view.Way.TheVariants.{Response}
+use Rattle.policy_doc.specs.declared.exports.document.Row.{Row}
+use Rattle.policy_ready.specs.declared.imports.view.ViewItem.{ViewItem}
+use Rattle.policy_ready.specs.declared.imports.view.ViewItem.TheVariants.{At}
+use Rattle.policy_ready.specs.declared.imports.view.Way.TheVariants.{Response}
 use Rattle.policy_doc.specs.declared.document.PolicyDoc.{PolicyDoc}
-use Rattle.service_subjects.specs.Names.{route_subject}
+use Rattle.service_exporter.specs.service_subjects.Names.{route_subject}
 use Rattle.service_exporter.specs.Routes.{Exporter, route_on}
 use Rattle.service_exporter.specs.declared.route.Route.{Route}
 use Rattle.service_routes.specs.Routes.{Name, exporter_of}
-use Rattle.service_rows.specs.Rows.{terms_of}
+use Rattle.service_routes.specs.service_rows.Rows.{terms_of}
 
 -- the response that an account's message on this subject is, as the account that has asked sees it: on the reply of its request
 abbrev pub response_by : Route → ViewItem

@@ -6,20 +6,20 @@ use Rattle.events.specs.Messages.{Message}
 use Rattle.events.specs.declared.answer.Addressed.{Addressed}
 use Rattle.events.specs.declared.answer.Item.{Item}
 use Rattle.events.specs.declared.answer.Item.TheVariants.{RouteFull, MapTooLong}
-use Rattle.exports.specs.declared.document.Row.{Row}
-use Rattle.imports.specs.declared.view.ViewItem.{ViewItem}
-use Rattle.imports.specs.declared.view.ViewItem.TheVariants.{At, TooLong}
-use Rattle.imports.specs.declared.view.Way.{Way}
-use Rattle.imports.specs.declared.view.Way.TheVariants.{Own, Stream, Service, Response}
+use Rattle.policy_doc.specs.declared.exports.document.Row.{Row}
+use Rattle.policy_ready.specs.declared.imports.view.ViewItem.{ViewItem}
+use Rattle.policy_ready.specs.declared.imports.view.ViewItem.TheVariants.{At, TooLong}
+use Rattle.policy_ready.specs.declared.imports.view.Way.{Way}
+use Rattle.policy_ready.specs.declared.imports.view.Way.TheVariants.{Own, Stream, Service, Response}
 use Rattle.policy_doc.specs.declared.document.PolicyDoc.{PolicyDoc}
 use Rattle.service_exporter.specs.Limit.{is_full}
 use Rattle.service_exporter.specs.Routes.{Exporter}
 use Rattle.service_routes.specs.Routes.{Name, exporter_of, pruned}
-use Rattle.world_deliveries.specs.declared.session.Session.{Session}
+use Rattle.world_sessions.specs.declared.deliveries.session.Session.{Session}
 use Rattle.world_rows.specs.declared.subscription.Subscription.{Subscription}
-pub use Rattle.receiver_views.specs.CachedViews.{others_in, others_with}
-use Rattle.world_receivers.specs.Standing.{addressed_behind_in, is_for_nobody}
-use Rattle.receiver_views.specs.CachedViews.{under_subject}
+pub use Rattle.receivers.specs.views.CachedViews.{others_in, others_with}
+use Rattle.world_views.specs.addressing.Standing.{addressed_behind_in, is_for_nobody}
+use Rattle.receivers.specs.views.CachedViews.{under_subject}
 use Rattle.world_views.specs.Changing.{changed_by, opened_each, AreNoted}
 use Rattle.world_views.specs.Requests.{route_for, next_subject}
 use Rattle.world_views.specs.declared.across.Told.{Told}

@@ -1,32 +1,32 @@
 //! A message addressed in all its views: its publisher's own, those across import rows, and that of the account that has asked.
 ghost use Rattle.std.specs.Prelude.{◌≡◌, ◌==◌, ◌++◌, ℕ, List, [], All, IfOk, IfSome, OnOk, None, Some, length, true, false, if◌then◌else◌};
-ghost use Rattle.imports.specs.Across.{views};
-ghost use Rattle.imports.specs.Views.{is_route, is_same, rows_of};
-ghost use Rattle.imports.specs.declared.view.ViewItem.TheVariants.{At};
-ghost use Rattle.imports.specs.declared.view.Way.TheVariants.{Own};
+ghost use Rattle.policy_ready.specs.imports.Across.{views};
+ghost use Rattle.policy_ready.specs.imports.Views.{is_route, is_same, rows_of};
+ghost use Rattle.policy_ready.specs.declared.imports.view.ViewItem.TheVariants.{At};
+ghost use Rattle.policy_ready.specs.declared.imports.view.Way.TheVariants.{Own};
 ghost use Rattle.service_exporter.specs.Routes.{Exporter};
 ghost use Rattle.service_routes.specs.Routes.{Name, pruned, spent};
-ghost use Rattle.world_deliveries.specs.Sessions.{session_of};
-ghost use Rattle.receiver_views.specs.Marked.{AreMarked};
-ghost use Rattle.receiver_cache.specs.Cached.{IsAllowed, IsCurrent};
-ghost use Rattle.world_receivers.specs.Standing.{addressed_behind_in};
-ghost use Rattle.receiver_views.specs.CachedViews.{under_subject};
+ghost use Rattle.world_sessions.specs.deliveries.Sessions.{session_of};
+ghost use Rattle.receivers.specs.views.Marked.{AreMarked};
+ghost use Rattle.receivers.specs.cache.Cached.{IsAllowed, IsCurrent};
+ghost use Rattle.world_views.specs.addressing.Standing.{addressed_behind_in};
+ghost use Rattle.receivers.specs.views.CachedViews.{under_subject};
 ghost use Rattle.world_views.specs.Changing.{changed_by, opened_each, AreNoted, IsNotedAt};
 ghost use Rattle.world_views.specs.Requests.{response_by, responses_on};
 ghost use Rattle.world_views.specs.Viewing.{addressed_after, addressing, others_in, others_with, publication, reports_after, reports_in, routes_after, seen_with, tables_at, AreNotedIn};
 
+use crate::addressing::{Receivers, Sending};
 use crate::changing::RouteChange;
 use crate::viewing::{Found, Occasion, Report, address_each, address_in};
 use base::{Alike, Boxed, Copying, NoMemory};
 use bytes::Bytes;
-use deny_marks::DenyMarks;
 use events::Said;
-use imports::Rows;
+use permissions::deny_marks::DenyMarks;
 use policy_ready::Ready;
+use policy_ready::imports::Rows;
 use service_routes::{Route, Routes};
 use std::alloc::Global;
 use subjects::{Subject, SubjectRef};
-use world_receivers::{Receivers, Sending};
 use world_sessions::Sessions;
 use world_subscriptions::Subscriptions;
 

@@ -1,7 +1,9 @@
-//! A message addressed in each of its views, one after the other, with the response routes that it opens or ends.
+//! A message addressed in each of its views, one after the other, with the response routes that it opens or ends. It hands
+//! nothing over, and doesn't know whether the message is allowed.
 #![tactic(auto)]
 
 mod across;
+pub mod addressing;
 mod changing;
 mod request;
 mod viewing;

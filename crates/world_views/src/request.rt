@@ -1,21 +1,21 @@
 //! A request that is seen across an import row of a service, and wants a response.
 ghost use Rattle.std.specs.Prelude.{◌≡◌, ◌++◌, ◌∷◌, [], All, IfOk, OnOk, Some, length, if◌then◌else◌};
-ghost use Rattle.service_subjects.specs.Names.{route_subject};
-ghost use Rattle.receiver_views.specs.Marked.{AreMarked};
-ghost use Rattle.world_receivers.specs.Standing.{addressed_behind_in, is_for_nobody};
+ghost use Rattle.service_exporter.specs.service_subjects.Names.{route_subject};
+ghost use Rattle.receivers.specs.views.Marked.{AreMarked};
+ghost use Rattle.world_views.specs.addressing.Standing.{addressed_behind_in, is_for_nobody};
 ghost use Rattle.world_views.specs.Changing.{IsNotedAt};
 ghost use Rattle.world_views.specs.Viewing.{addressing, opening_for, publication, report, reports_by, request_in, seen_with, tables_at, with_effect};
 ghost use Rattle.world_views.specs.declared.viewing.Cause.TheVariants as cause;
 
+use crate::addressing::{Receivers, Seen};
 use crate::changing::{Opening, count_of};
 use crate::viewing::{Cause, Found, Occasion, Report};
 use base::{NoMemory, Shared};
 use bytes::Bytes;
 use events::Said;
+use service_routes::service_rows::terms_of;
 use service_routes::{Route, RouteError, Routes, Row, route_subject};
-use service_rows::terms_of;
 use subjects::{Subject, SubjectRef};
-use world_receivers::{Receivers, Seen};
 
 /// Where a request is seen.
 #[derive(Clone, Copy)]

@@ -1,23 +1,23 @@
 //! A message addressed in its views one after the other, and the import rows that are reported between its deliveries.
 ghost use Rattle.std.specs.Prelude.{◌≡◌, ◌++◌, ◌-◌, None, All, IfOk, OnOk, take, drop};
 ghost use Rattle.events.specs.Sendings.{named};
-ghost use Rattle.receiver_views.specs.Marked.{AreMarked};
-ghost use Rattle.world_receivers.specs.Standing.{addressed_behind_in};
+ghost use Rattle.receivers.specs.views.Marked.{AreMarked};
+ghost use Rattle.world_views.specs.addressing.Standing.{addressed_behind_in};
 ghost use Rattle.world_views.specs.Changing.{IsNotedAt};
 ghost use Rattle.world_views.specs.Viewing.{addressed_after, addressing, effect_of, item_of, publication, reports_after, reports_by, seen_with, tables_at, with_effect, with_reports};
 
+use crate::addressing::{Receivers, Seen, Sending};
 use crate::changing::Opening;
 use crate::request::{Request, address_request};
 use base::{NoMemory, Shared};
 use bytes::Bytes;
-use deny_marks::DenyMarks;
 use events::{Item, Said};
-use imports::{ViewItem, Way};
+use permissions::deny_marks::DenyMarks;
 use policy_ready::Ready;
+use policy_ready::imports::{ViewItem, Way};
 use service_routes::{Routes, Row};
 use std::alloc::Global;
 use subjects::Subject;
-use world_receivers::{Receivers, Seen, Sending};
 use world_sessions::Sessions;
 use world_subscriptions::Subscriptions;
 

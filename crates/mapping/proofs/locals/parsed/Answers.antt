@@ -1,5 +1,5 @@
 use Rattle.subjects.specs.Fault.{pattern_fault}
-use Rattle.mapping_template.proofs.Patterns.{parsed_is}
+use Rattle.mapping.proofs.templates.Patterns.{parsed_is}
 use Rattle.mapping.proofs.locals.parsed.Goals as goal
 
 pub returns-in-Ok : goal.returns-in-Ok

@@ -1,5 +1,5 @@
 use Rattle.std.proofs.Common.{◌∙◌, ◌+◌}
-use Rattle.mapping_template.proofs.Ranges.{more_numbers}
+use Rattle.mapping.proofs.templates.Ranges.{more_numbers}
 use Rattle.mapping.proofs.making.first_numbers.Goals as goal
 
 pub loop-number-preserved : goal.loop-number-preserved

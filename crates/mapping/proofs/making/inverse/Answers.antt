@@ -1,6 +1,6 @@
 use Rattle.std.proofs.Common.{◌∙◌, ◌+◌, ◌==◌, ap}
 use Rattle.std.specs.List.{position_or_len}
-use Rattle.mapping_template.proofs.Ranges.{more_mapped}
+use Rattle.mapping.proofs.templates.Ranges.{more_mapped}
 use Rattle.mapping.proofs.making.inverse.Goals as goal
 
 pub loop-number-preserved : goal.loop-number-preserved

@@ -1,7 +1,7 @@
 -- with what is left the text is that of the whole
 use Rattle.std.proofs.Common.{◌≡◌, ◌+◌, [], length, map, drop}
 use Rattle.mapping.specs.Pairs.{count_stars, filled, numbered}
-use Rattle.mapping_template.specs.Text.{with_tokens}
+use Rattle.mapping.specs.templates.Text.{with_tokens}
 use Rattle.mapping.proofs.side.filled_text.Given as goal
 
 abbrev pub invariant-loop-place : goal.invariant-loop-place

@@ -1,7 +1,7 @@
 use Rattle.std.proofs.Common.{◌≡◌, ◌∙◌, [], map}
 use Rattle.std.proofs.lemmas.List.{length-map}
 use Rattle.mapping.specs.Sides.{other_side}
-use Rattle.mapping_template.specs.Text.{with_tokens}
+use Rattle.mapping.specs.templates.Text.{with_tokens}
 use Rattle.mapping.proofs.Carries.{text_subject, within_given, written}
 use Rattle.mapping.proofs.side.other_side.Goals as goal
 

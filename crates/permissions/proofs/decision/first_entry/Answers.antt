@@ -1,7 +1,7 @@
 use Rattle.std.proofs.Common.{[], Bool, subst, slice_index_or}
 use Rattle.std.specs.Option.{option_copied}
-use Rattle.permission_doc.specs.Entries.{entry_of}
-use Rattle.pattern_groups.specs.Links.{IsLeast}
+use Rattle.policy_doc.specs.permission_doc.Entries.{entry_of}
+use Rattle.subjects.specs.pattern_groups.Links.{IsLeast}
 use Rattle.permissions.specs.Lists.{Entry}
 use Rattle.permissions.specs.Looked.{has_whole}
 use Rattle.permissions.proofs.Found.{as_many, passes_by_hash}

@@ -2,7 +2,7 @@
 use Rattle.std.proofs.Common.{◌≡◌, ◌∙◌, ◌++◌, List, ℕ, [], ap, string_bytes}
 use Rattle.std.specs.Prelude.{codes, decimal}
 use Rattle.json.specs.Print.{quoted}
-use Rattle.policy_places.specs.Place.{place_words}
+use Rattle.policy_notes.specs.positions.Place.{place_words}
 use Rattle.policy_notes.specs.Notes.{key_of}
 use Rattle.policy_notes.specs.Places.{place_of}
 use Rattle.policy_notes.proofs.notes.warning_of.Goals as goal

@@ -1,6 +1,6 @@
 -- of the first 100
 use Rattle.std.proofs.Common.{◌≡◌, ◌∙◌, rules, ap, map, min, length, take, string_bytes}
-use Rattle.policy_places.specs.Repeats.{repeated, repeats_of}
+use Rattle.policy_notes.specs.positions.Repeats.{repeated, repeats_of}
 use Rattle.policy_notes.specs.Notes.{warning}
 use Rattle.policy_notes.proofs.Few.{take_few}
 use Rattle.policy_notes.proofs.notes.warnings_of.Goals as goal

@@ -1,6 +1,6 @@
 -- a text for each key so far
 use Rattle.std.proofs.Common.{◌≡◌, map, string_bytes, take}
-use Rattle.policy_places.specs.Repeats.{repeated}
+use Rattle.policy_notes.specs.positions.Repeats.{repeated}
 use Rattle.policy_notes.specs.Notes.{warning}
 use Rattle.policy_notes.proofs.notes.warnings_on.Given as goal
 

@@ -1,6 +1,6 @@
 -- to open a connection the hub is not asked
 use Rattle.std.proofs.Common.{sym, subst}
-use Rattle.script_text.specs.declared.lines.Line.{Line}
+use Rattle.lines.specs.declared.script_text.lines.Line.{Line}
 use Rattle.script.specs.Play.{line_effect, IsEffect}
 use Rattle.script.proofs.player.on_line.Goals as goal
 

@@ -1,7 +1,7 @@
 -- what is retained are the slots in which a route stands
 use Rattle.std.proofs.Common.{rules, true}
 use Rattle.std.proofs.lemmas.Fn.{filter_same}
-use Rattle.numbered_slots.proofs.Places.{entries_compacted, rising_left, below_left}
+use Rattle.stores.proofs.numbered_slots.Places.{entries_compacted, rising_left, below_left}
 use Rattle.service_exporter.specs.Slots.{slot_number, held}
 use Rattle.service_exporter.proofs.slots.compact.Goals as goal
 

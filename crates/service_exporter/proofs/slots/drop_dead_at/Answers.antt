@@ -1,5 +1,5 @@
 -- a route that doesn't live isn't among those that do
-use Rattle.numbered_slots.proofs.Places.{rising_set, below_set}
+use Rattle.stores.proofs.numbered_slots.Places.{rising_set, below_set}
 use Rattle.service_exporter.specs.Slots.{slot_number}
 use Rattle.service_exporter.proofs.Places.{dropped_at}
 use Rattle.service_exporter.proofs.slots.drop_dead_at.Goals as goal

@@ -1,6 +1,6 @@
 -- each slot has its number, and its route on its row
 use Rattle.std.proofs.Common.{◌∙◌, ap, refl, sym, subst}
-use Rattle.numbered_slots.proofs.Places.{rising-map, below-map}
+use Rattle.stores.proofs.numbered_slots.Places.{rising-map, below-map}
 use Rattle.service_exporter.specs.Slots.{slot_number, kept_slot, standing_in, AreRising, AreBelow}
 use Rattle.service_exporter.proofs.Places.{standing-on_rows}
 use Rattle.service_exporter.proofs.slots.keep_rows.Goals as goal

@@ -2,7 +2,7 @@
 use Rattle.std.proofs.Common.{rules, slice_index_or}
 use Rattle.std.proofs.lemmas.List.Sorted.{answers_always}
 use Rattle.service_exporter.specs.declared.slots.Slot.{Slot}
-use Rattle.numbered_slots.proofs.Places.{cmp_equal, searchable, not_there}
+use Rattle.stores.proofs.numbered_slots.Places.{cmp_equal, searchable, not_there}
 use Rattle.service_exporter.specs.Slots.{slot_number}
 use Rattle.service_exporter.proofs.slots.place_of.Goals as goal
 

@@ -1,7 +1,7 @@
 -- what is retained are the slots of the routes that live
 use Rattle.std.proofs.Common.{rules}
 use Rattle.std.proofs.lemmas.Fn.{filter_same}
-use Rattle.numbered_slots.proofs.Places.{entries_left, rising_left, below_left}
+use Rattle.stores.proofs.numbered_slots.Places.{entries_left, rising_left, below_left}
 use Rattle.service_exporter.specs.Routes.{lives}
 use Rattle.service_exporter.specs.Slots.{slot_number, held}
 use Rattle.service_exporter.proofs.slots.prune.Goals as goal

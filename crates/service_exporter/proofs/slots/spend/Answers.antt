@@ -1,6 +1,6 @@
 -- the slot of the subject's route, or none
 use Rattle.std.proofs.Common.{sym}
-use Rattle.numbered_slots.proofs.Places.{rising_set, below_set}
+use Rattle.stores.proofs.numbered_slots.Places.{rising_set, below_set}
 use Rattle.service_exporter.specs.Slots.{slot_number}
 use Rattle.service_exporter.proofs.Places.{none_spent, spent_at, left_at}
 use Rattle.service_exporter.proofs.slots.spend.Goals as goal

@@ -3,7 +3,7 @@ use Rattle.std.proofs.Common.{◌≡◌, false, List, All, subst}
 use Rattle.std.specs.Option.{option_copied}
 use Rattle.std.proofs.lemmas.List.{take_all}
 use Rattle.hub.specs.Segments.{HistoryPart}
-use Rattle.hub_segments.specs.Joins.{has_number}
+use Rattle.hub.specs.joins.Joins.{has_number}
 use Rattle.shared_hub.proofs.Entered.{lacks-more, segment_found, tail_found}
 use Rattle.shared_hub.proofs.audit.entry_at.Goals as goal
 

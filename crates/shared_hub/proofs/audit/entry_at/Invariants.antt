@@ -1,7 +1,7 @@
 -- none of the segments so far has the number
 use Rattle.std.proofs.Common.{◌≡◌, All, false, take}
 use Rattle.hub.specs.Segments.{HistoryPart}
-use Rattle.hub_segments.specs.Joins.{has_number}
+use Rattle.hub.specs.joins.Joins.{has_number}
 use Rattle.shared_hub.proofs.audit.entry_at.Given as goal
 
 abbrev pub invariant-loop-segment : goal.invariant-loop-segment

@@ -2,7 +2,7 @@
 use Rattle.std.proofs.Common.{ℕ, List, sym, subst, take}
 use Rattle.std.proofs.lemmas.List.{take_all}
 use Rattle.std.proofs.lemmas.Bool.Decides.{not_from_Decides}
-use Rattle.shared_receipts.specs.Receipts.{Receipt}
+use Rattle.shared_waits.specs.receipts.Receipts.{Receipt}
 use Rattle.shared_hub.specs.Audits.{Stands, HasNone, AreGenuine, IsMismatch}
 use Rattle.shared_hub.proofs.Genuine.{genuine-more, mismatch-at}
 use Rattle.shared_hub.proofs.audit.first_mismatch.Goals as goal

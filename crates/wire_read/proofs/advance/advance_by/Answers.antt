@@ -1,5 +1,5 @@
 use Rattle.std.proofs.Common.{◌≤◌, ◌+◌, length, arith}
-use Rattle.wire_lines.specs.Line.{without_cr}
+use Rattle.wire_read.specs.lines.Line.{without_cr}
 use Rattle.wire_read.proofs.AwaitedLemmas.{waits_line, waits_block, waits_len}
 use Rattle.wire_read.proofs.advance.advance_by.Goals as goal
 

@@ -1,11 +1,11 @@
 use Rattle.std.proofs.Common.{◌≡◌, ◌+◌, ◌≤◌, ℕ, List, drop, length-take, take, sym, ap, ◌∙◌, subst, arith}
 use Rattle.std.proofs.lemmas.Grind.{common_steps}
-use Rattle.wire_lines.specs.Line.{without_cr}
+use Rattle.wire_read.specs.lines.Line.{without_cr}
 use Rattle.wire_read.specs.Command.{command, Alone, Publish, Refused}
 use Rattle.wire_read.specs.Front.{after_announced}
 use Rattle.wire_read.specs.Places.{announced_at, frame_at, IsInOrder}
 use Rattle.wire_read.specs.Awaited.{IsFound, AwaitsBlock, front_of}
-use Rattle.wire_lines.proofs.LineLemmas.{without_cr-bounds}
+use Rattle.wire_read.proofs.lines.LineLemmas.{without_cr-bounds}
 use Rattle.wire_read.proofs.TextLemmas.{in_order, same_texts}
 use Rattle.wire_read.proofs.SaysLemmas.{command_within, command_total}
 use Rattle.wire_read.proofs.AwaitedLemmas.{found_refused, found_alone, found_published, if_both}

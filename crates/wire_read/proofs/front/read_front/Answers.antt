@@ -1,6 +1,6 @@
 use Rattle.std.proofs.Common.{sym, ap, ◌∙◌}
-use Rattle.wire_lines.specs.Line.{line_of}
-use Rattle.wire_lines.proofs.LineLemmas.{ended_within}
+use Rattle.wire_read.specs.lines.Line.{line_of}
+use Rattle.wire_read.proofs.lines.LineLemmas.{ended_within}
 use Rattle.wire_read.proofs.AwaitedLemmas.{open_awaits, too_long}
 use Rattle.wire_read.proofs.front.read_front.Goals as goal
 

@@ -1,6 +1,6 @@
 -- by whatever name its pattern goes
 use Rattle.std.proofs.Common.{◌∙◌}
-use Rattle.world_deliveries.specs.Sessions.{session_of}
+use Rattle.world_sessions.specs.deliveries.Sessions.{session_of}
 use Rattle.world.specs.Reload.{user_after}
 use Rattle.world.proofs.Reasons.{any_reason}
 use Rattle.world.proofs.reload.has_reason.Goals as goal

@@ -6,7 +6,7 @@ use Rattle.std.proofs.lemmas.List.Elements.{All-cons, All-head, All-tail}
 use Rattle.world_rows.specs.declared.subscription.Subscription.{Subscription}
 use Rattle.world.specs.Changes.{lost_id}
 use Rattle.world.specs.Reload.{removal_after, verdict_before, may_stand, AllMayStand, IsReasonedVerdict}
-use Rattle.world_groups.proofs.Lists.{filter_map_first}
+use Rattle.world_subscriptions.proofs.groups.Lists.{filter_map_first}
 use Rattle.world.proofs.reload.lost_by.Goals as goal
 
 -- what is put behind, and what the others give

@@ -1,6 +1,6 @@
 -- the verdict is that of the user's lists
 use Rattle.std.proofs.Common.{◌∙◌, ap}
-use Rattle.world_deliveries.specs.Sessions.{session_of}
+use Rattle.world_sessions.specs.deliveries.Sessions.{session_of}
 use Rattle.world.specs.Reload.{user_after}
 use Rattle.world.proofs.Subscribing.{verdict_is}
 use Rattle.world.proofs.reload.verdict_on.Goals as goal

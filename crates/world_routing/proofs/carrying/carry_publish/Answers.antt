@@ -1,12 +1,12 @@
 -- the cache stays current where none of those that have counted the message has ended
 use Rattle.std.proofs.Common.{◌≡◌, ℕ, List, length, ap, sym, subst, inl, inr, arith}
-use Rattle.world_deliveries.specs.declared.session.Session.{Session}
+use Rattle.world_sessions.specs.declared.deliveries.session.Session.{Session}
 use Rattle.world_subscriptions.specs.Counting.{entered_ids, in_turn}
 use Rattle.world_rows.specs.declared.subscription.Subscription.{Subscription}
-use Rattle.receiver_cache.specs.Cached.{IsCurrent}
-use Rattle.receiver_cache.specs.declared.cache.ReceiverCache.{ReceiverCache}
-use Rattle.receiver_cache.proofs.Stays.{AreSeated, current_in_turn}
-use Rattle.receiver_cache.proofs.Told.{empty_current}
+use Rattle.receivers.specs.cache.Cached.{IsCurrent}
+use Rattle.receivers.specs.declared.cache.cache.ReceiverCache.{ReceiverCache}
+use Rattle.receivers.proofs.cache.Stays.{AreSeated, current_in_turn}
+use Rattle.receivers.proofs.cache.Told.{empty_current}
 use Rattle.world_routing.proofs.Delivering.{seated_handed}
 use Rattle.world_routing.proofs.carrying.carry_publish.Goals as goal
 

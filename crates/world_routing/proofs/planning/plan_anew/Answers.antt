@@ -2,9 +2,9 @@
 use Rattle.std.proofs.Common.{◌∙◌, ◌==◌, Option, Some, Ok, ap, sym, subst}
 use Rattle.std.proofs.lemmas.Bool.{eqb-true}
 use Rattle.account_mappings.specs.Drawing.{mapped_by}
-use Rattle.world_deliveries.specs.Sessions.{session_of}
-use Rattle.world_deliveries.specs.declared.session.Session.{Session}
-use Rattle.receiver_views.proofs.Tests.{find-passes}
+use Rattle.world_sessions.specs.deliveries.Sessions.{session_of}
+use Rattle.world_sessions.specs.declared.deliveries.session.Session.{Session}
+use Rattle.receivers.proofs.views.Tests.{find-passes}
 use Rattle.world_routing.specs.Publishing.{IsElsewhere}
 use Rattle.world_views.specs.Viewing.{Tables}
 use Rattle.world_routing.specs.declared.planning.Elsewhere.{Elsewhere}

@@ -4,12 +4,12 @@ use Rattle.std.proofs.lemmas.List.Elements.{All-nil}
 use Rattle.subjects.specs.Subject.{Token}
 use Rattle.account_mappings.specs.declared.drawing.Mapped.{Mapped}
 use Rattle.events.specs.declared.answer.Addressed.{Addressed}
-use Rattle.imports.specs.Across.{views}
-use Rattle.imports.specs.Views.{rows_of}
-use Rattle.imports.specs.declared.view.ViewItem.{ViewItem}
-use Rattle.world_deliveries.specs.Sessions.{session_of}
-use Rattle.receiver_cache.specs.Drawn.{IsSentOn, subject_of}
-use Rattle.receiver_views.specs.CachedViews.{under_subject}
+use Rattle.policy_ready.specs.imports.Across.{views}
+use Rattle.policy_ready.specs.imports.Views.{rows_of}
+use Rattle.policy_ready.specs.declared.imports.view.ViewItem.{ViewItem}
+use Rattle.world_sessions.specs.deliveries.Sessions.{session_of}
+use Rattle.receivers.specs.cache.Drawn.{IsSentOn, subject_of}
+use Rattle.receivers.specs.views.CachedViews.{under_subject}
 use Rattle.world_routing.specs.Publishing.{IsElsewhere}
 use Rattle.world_views.specs.Requests.{responses_on}
 use Rattle.world_views.specs.Viewing.{Tables, addressing, publication, tables_at}

@@ -1,7 +1,7 @@
 -- a message that its account's mappings send on nowhere comes to its one item
 use Rattle.std.proofs.Common.{◌∙◌, List, ap, sym}
-use Rattle.world_deliveries.specs.Sessions.{session_of}
-use Rattle.world_deliveries.specs.declared.session.Session.{Session}
+use Rattle.world_sessions.specs.deliveries.Sessions.{session_of}
+use Rattle.world_sessions.specs.declared.deliveries.session.Session.{Session}
 use Rattle.world_routing.specs.declared.planning.Plan.{Plan}
 use Rattle.world_routing.specs.declared.planning.Plan.TheVariants.{ToSome}
 use Rattle.world_routing.proofs.Publishing.{planned_nowhere}

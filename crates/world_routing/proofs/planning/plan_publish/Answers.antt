@@ -2,11 +2,11 @@
 use Rattle.std.proofs.Common.{List, Option, subst}
 use Rattle.std.specs.Prelude.{IfSome}
 use Rattle.permissions.specs.declared.verdict.By.{By}
-use Rattle.imports.specs.Views.{rows_of}
-use Rattle.imports.specs.declared.rows.ImportRow.{ImportRow}
-use Rattle.world_deliveries.specs.declared.session.Session.{Session}
+use Rattle.policy_ready.specs.imports.Views.{rows_of}
+use Rattle.policy_ready.specs.declared.imports.rows.ImportRow.{ImportRow}
+use Rattle.world_sessions.specs.declared.deliveries.session.Session.{Session}
 use Rattle.world_rows.specs.declared.subscription.Subscription.{Subscription}
-use Rattle.receiver_cache.specs.Cached.{IsAloneAt, IsCurrent}
+use Rattle.receivers.specs.cache.Cached.{IsAloneAt, IsCurrent}
 use Rattle.world_routing.proofs.Alone.{alone_comes, alone_unsaid}
 use Rattle.world_routing.proofs.planning.plan_publish.Goals as goal
 

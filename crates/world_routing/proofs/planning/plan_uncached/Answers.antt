@@ -5,12 +5,12 @@ use Rattle.std.proofs.lemmas.List.Elements.{All-nil}
 use Rattle.std.specs.Prelude.{IfSome}
 use Rattle.subjects.specs.Subject.{Token}
 use Rattle.events.specs.declared.answer.Addressed.{Addressed}
-use Rattle.receiver_cache.specs.Cached.{IsAllowed}
-use Rattle.imports.specs.Across.{views}
-use Rattle.imports.specs.declared.view.ViewItem.{ViewItem}
-use Rattle.world_deliveries.specs.Sessions.{session_of}
-use Rattle.world_deliveries.specs.declared.session.Session.{Session}
-use Rattle.receiver_views.proofs.Tests.{find-passes}
+use Rattle.receivers.specs.cache.Cached.{IsAllowed}
+use Rattle.policy_ready.specs.imports.Across.{views}
+use Rattle.policy_ready.specs.declared.imports.view.ViewItem.{ViewItem}
+use Rattle.world_sessions.specs.deliveries.Sessions.{session_of}
+use Rattle.world_sessions.specs.declared.deliveries.session.Session.{Session}
+use Rattle.receivers.proofs.views.Tests.{find-passes}
 use Rattle.world_views.specs.Requests.{responses_on}
 use Rattle.world_views.specs.Viewing.{Tables, addressing, publication, tables_at}
 use Rattle.world_routing.proofs.Alone.{lists_allow}

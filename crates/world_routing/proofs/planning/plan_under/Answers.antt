@@ -2,9 +2,9 @@
 use Rattle.std.proofs.Common.{◌≡◌, List, [], All, None, sym, subst}
 use Rattle.std.proofs.lemmas.List.Elements.{All-nil}
 use Rattle.events.specs.declared.answer.Addressed.{Addressed}
-use Rattle.imports.specs.Across.{views}
-use Rattle.imports.specs.declared.view.ViewItem.{ViewItem}
-use Rattle.receiver_views.specs.CachedViews.{under_subject}
+use Rattle.policy_ready.specs.imports.Across.{views}
+use Rattle.policy_ready.specs.declared.imports.view.ViewItem.{ViewItem}
+use Rattle.receivers.specs.views.CachedViews.{under_subject}
 use Rattle.world_views.specs.Requests.{responses_on}
 use Rattle.world_views.specs.Viewing.{Tables, addressing, publication, tables_at}
 use Rattle.world_views.proofs.Addressed.{unsaid_after}

@@ -1,7 +1,7 @@
 -- what is remembered is what the lists say, and a live grant allows what they refuse
 use Rattle.std.proofs.Common.{rules, ◌≡◌, ◌∙◌, subst, sym}
 use Rattle.permissions.specs.Verdicts.{publish_verdict}
-use Rattle.verdict_cache.specs.Verdicts.{Judges}
+use Rattle.permissions.specs.verdict_cache.Verdicts.{Judges}
 use Rattle.world_routing.specs.Remembered.{judged_by}
 use Rattle.world_routing.proofs.Remembered.{judges, granted_is, denied_is, allowed_is}
 use Rattle.world_routing.proofs.verdict.on_publish.Goals.{else-not-is_allowed-via-then-not-is_allowed+else-is_granted, else-not-is_allowed-via-else-not-is_allowed}

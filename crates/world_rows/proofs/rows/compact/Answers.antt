@@ -1,7 +1,7 @@
 -- what is retained are the rows that are full
 use Rattle.std.proofs.Common.{rules, true}
 use Rattle.std.proofs.lemmas.Fn.{filter_same}
-use Rattle.numbered_slots.proofs.Places.{entries_compacted, rising_left}
+use Rattle.stores.proofs.numbered_slots.Places.{entries_compacted, rising_left}
 use Rattle.world_rows.specs.Rows.{id_of, held}
 use Rattle.world_rows.proofs.Places.{full_left, below_full}
 use Rattle.world_rows.proofs.rows.compact.Goals as goal

@@ -1,6 +1,6 @@
 -- the row of the id is empty afterwards
 use Rattle.std.proofs.Common.{◌≡◌, ◌∙◌, ap, sym, Some, None, slice_index_or}
-use Rattle.numbered_slots.proofs.Places.{rising_set}
+use Rattle.stores.proofs.numbered_slots.Places.{rising_set}
 use Rattle.world_rows.specs.Rows.{id_of, entries_in}
 use Rattle.world_rows.specs.declared.rows.Row.{Row}
 use Rattle.world_rows.proofs.Places as places

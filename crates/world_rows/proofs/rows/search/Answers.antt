@@ -2,7 +2,7 @@
 use Rattle.std.proofs.Common.{rules, slice_index_or}
 use Rattle.std.proofs.lemmas.List.Sorted.{answers_always}
 use Rattle.world_rows.specs.declared.rows.Row.{Row}
-use Rattle.numbered_slots.proofs.Places.{cmp_equal, searchable, not_there}
+use Rattle.stores.proofs.numbered_slots.Places.{cmp_equal, searchable, not_there}
 use Rattle.world_rows.specs.Rows.{id_of}
 use Rattle.world_rows.proofs.Places.{absent_of}
 use Rattle.world_rows.proofs.rows.search.Goals as goal

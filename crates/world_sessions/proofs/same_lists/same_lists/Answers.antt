@@ -2,7 +2,7 @@
 use Rattle.std.proofs.Common.{◌≡◌, ◌<◌, Bool, Decides, List, length, get_or, ap, refl, subst, arith}
 use Rattle.std.proofs.lemmas.List.Elements.{at_read}
 use Rattle.world_sessions.specs.Renewal.{HasSameLists, HaveOneUser}
-use Rattle.world_deliveries.specs.declared.session.Session.{Session}
+use Rattle.world_sessions.specs.declared.deliveries.session.Session.{Session}
 use Rattle.world_sessions.proofs.Beside.{length_more, same_more}
 use Rattle.world_sessions.proofs.same_lists.same_lists.Goals as goal
 

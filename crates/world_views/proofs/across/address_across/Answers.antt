@@ -1,11 +1,11 @@
 -- the views behind that of the account itself are the others
 use Rattle.std.proofs.Common.{◌∙◌, ◌++◌, List, [], All, ℕ, ap, sym, subst}
 use Rattle.std.proofs.lemmas.List.Elements.{All-nil}
-use Rattle.imports.specs.Views.{rows_of}
-use Rattle.imports.specs.declared.rows.ImportRow.{ImportRow}
-use Rattle.imports.specs.declared.view.ViewItem.{ViewItem}
+use Rattle.policy_ready.specs.imports.Views.{rows_of}
+use Rattle.policy_ready.specs.declared.imports.rows.ImportRow.{ImportRow}
+use Rattle.policy_ready.specs.declared.imports.view.ViewItem.{ViewItem}
 use Rattle.service_routes.specs.Routes.{pruned}
-use Rattle.receiver_views.proofs.Seen.{tail_of}
+use Rattle.receivers.proofs.views.Seen.{tail_of}
 use Rattle.world_views.specs.Changing.{opened_each, IsNotedAt}
 use Rattle.world_views.specs.Viewing.{Tables, Publication, Addressing, addressing, addressed_after, others_in, publication, reports_after, tables_at}
 use Rattle.world_views.specs.declared.changing.Opening.{Opening}

@@ -2,12 +2,12 @@
 use Rattle.std.proofs.Common.{◌≡◌, ◌∙◌, List, [], true, false, ap, refl, sym, subst}
 use Rattle.subjects.specs.Subject.{Token}
 use Rattle.events.specs.declared.answer.Addressed.{Addressed}
-use Rattle.imports.specs.Views.{is_route, rows_of}
-use Rattle.imports.specs.declared.rows.ImportRow.{ImportRow}
+use Rattle.policy_ready.specs.imports.Views.{is_route, rows_of}
+use Rattle.policy_ready.specs.declared.imports.rows.ImportRow.{ImportRow}
 use Rattle.world_rows.specs.declared.subscription.Subscription.{Subscription}
-use Rattle.receiver_cache.specs.Cached.{cached_others}
-use Rattle.receiver_views.specs.CachedViews.{KnowsOthers, others_in}
-use Rattle.world_receivers.proofs.Left.{own_first}
+use Rattle.receivers.specs.cache.Cached.{cached_others}
+use Rattle.receivers.specs.views.CachedViews.{KnowsOthers, others_in}
+use Rattle.world_views.proofs.addressing.Left.{own_first}
 use Rattle.world_views.specs.Changing.{opened_each}
 use Rattle.world_views.specs.Viewing.{Tables, Publication, Addressing, addressing, addressed_after, publication, reports_after, tables_at}
 use Rattle.world_views.proofs.Addressed.{others_told, others_unreported}

@@ -2,11 +2,11 @@
 use Rattle.std.proofs.Common.{◌≡◌, ◌∙◌, List, [], Some, None, ap, sym}
 use Rattle.subjects.specs.Subject.{Token}
 use Rattle.events.specs.declared.answer.Addressed.{Addressed}
-use Rattle.imports.specs.declared.view.ViewItem.{ViewItem}
+use Rattle.policy_ready.specs.declared.imports.view.ViewItem.{ViewItem}
 use Rattle.service_exporter.specs.Routes.{Exporter, route_on}
 use Rattle.service_exporter.specs.declared.route.Route.{Route}
 use Rattle.service_routes.specs.Routes.{Name, exporter_of, pruned}
-use Rattle.receiver_views.specs.CachedViews.{others_with}
+use Rattle.receivers.specs.views.CachedViews.{others_with}
 use Rattle.world_views.specs.Viewing.{Tables, Publication, addressing, addressed_after, publication, tables_at}
 use Rattle.world_views.proofs.InTurn.{spent_none}
 use Rattle.world_views.proofs.Seeing.{no_response, one_response, others_none, response_addressed}

@@ -2,9 +2,9 @@
 use Rattle.std.proofs.Common.{◌≡◌, ◌∙◌, ◌++◌, List, [], true, false, ap, refl, sym}
 use Rattle.subjects.specs.Subject.{Token}
 use Rattle.events.specs.declared.answer.Addressed.{Addressed}
-use Rattle.imports.specs.Views.{is_route, rows_of}
-use Rattle.receiver_views.specs.CachedViews.{others_in, under_subject}
-use Rattle.world_receivers.specs.Standing.{addressed_behind_in}
+use Rattle.policy_ready.specs.imports.Views.{is_route, rows_of}
+use Rattle.receivers.specs.views.CachedViews.{others_in, under_subject}
+use Rattle.world_views.specs.addressing.Standing.{addressed_behind_in}
 use Rattle.world_views.specs.Changing.{opened_each}
 use Rattle.world_views.specs.Viewing.{Tables, Publication, Addressing, addressing, addressed_after, publication, reports_after, tables_at}
 use Rattle.world_views.proofs.InAll.{across_all, across_changed, across_reports, alone_all, alone_changed, alone_reports, asker, importers, own, route_all, route_changed, route_reports}

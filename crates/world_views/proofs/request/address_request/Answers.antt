@@ -4,7 +4,7 @@ use Rattle.service_exporter.specs.Limit.{is_full, IsReserved}
 use Rattle.service_exporter.specs.declared.error.RouteError.{RouteError}
 use Rattle.service_exporter.specs.Routes.{Exporter}
 use Rattle.service_routes.specs.Routes.{Name, exporter_of, pruned}
-use Rattle.world_receivers.specs.Standing.{is_for_nobody}
+use Rattle.world_views.specs.addressing.Standing.{is_for_nobody}
 use Rattle.world_views.specs.Changing.{count_of, opened_each}
 use Rattle.world_views.specs.Viewing.{Tables, Publication, Addressing, addressing, publication, requested_if, reports_by, tables_at, with_effect}
 use Rattle.world_views.specs.declared.changing.Opening.{Opening}

@@ -1,7 +1,7 @@
 -- a caller that is lenient to all is never told that an event is held back
 use Rattle.std.proofs.Common.{Err, subst}
 use Rattle.events.specs.declared.refusal.PublishRefusal.{PublishRefusal}
-use Rattle.world_leniency.specs.Held.{to_all}
+use Rattle.world_sessions.specs.leniency.Held.{to_all}
 use Rattle.hub.specs.Holding.{IsStepIf}
 use Rattle.hub.proofs.Legal.{never-held}
 use Rattle.hub.proofs.hub.Hub.step.Goals as goal

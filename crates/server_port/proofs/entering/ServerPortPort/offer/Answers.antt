@@ -1,6 +1,6 @@
 -- the points before and after the message, and what is noted of its answer
 use Rattle.std.proofs.Common.{◌≡◌, ◌∙◌, ap, subst, sym}
-use Rattle.server_gates.specs.declared.gate.Point.TheVariants.{FrameRead}
+use Rattle.server_port.specs.declared.gates.gate.Point.TheVariants.{FrameRead}
 use Rattle.server_log.specs.Noting.{IsOfferNoted}
 use Rattle.server_port.specs.Points.{ArePassed, answered_if, offer_points}
 use Rattle.server_port.proofs.Passing.{passed_on}

@@ -2,7 +2,7 @@
 use Rattle.std.proofs.Common.{◌≡◌, ◌≢◌, ◌∙◌, ◌<◌, ◌+◌, [], ap, length, refl, subst, sym, arith}
 use Rattle.std.proofs.lemmas.Grind.{common_steps}
 use Rattle.events.specs.declared.run.RunEnd.TheVariants as run
-use Rattle.shared_runs.proofs.Runs.{completes_none, nearer}
+use Rattle.shared_waits.proofs.runs.Runs.{completes_none, nearer}
 use Rattle.shared_hub.specs.Entering.{IsOfferedBy, IsPostedBy}
 use Rattle.server_port.specs.Holds.{AreHoldsPassed, IsWhy, held_back}
 use Rattle.server_port.specs.declared.course.Why.TheVariants.{Share}

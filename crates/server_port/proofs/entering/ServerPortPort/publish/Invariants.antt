@@ -1,6 +1,6 @@
 -- what is left, once it is posted, completes the run, and so does what is noted of it and which points are passed
 use Rattle.std.proofs.Common.{◌≡◌, ◌≤◌, ◌+◌, ◌*◌, length}
-use Rattle.shared_runs.proofs.Runs.{Completes}
+use Rattle.shared_waits.proofs.runs.Runs.{Completes}
 use Rattle.shared_hub.specs.Entering.{IsOfferedBy, IsPostedBy}
 use Rattle.server_port.proofs.Holds.{NotesOn, PassesOn}
 use Rattle.server_port.proofs.entering.ServerPortPort.publish.Given as goal

@@ -1,6 +1,6 @@
 -- the points before and after the event, and what is noted of its answer
 use Rattle.std.proofs.Common.{◌≡◌, ◌∙◌, ◌∷◌, [], subst, sym}
-use Rattle.server_gates.specs.declared.gate.Point.TheVariants.{Answered, FrameRead}
+use Rattle.server_port.specs.declared.gates.gate.Point.TheVariants.{Answered, FrameRead}
 use Rattle.server_log.specs.Noting.{IsNoted}
 use Rattle.server_port.proofs.Passing.{one_passed, passed_on}
 use Rattle.server_port.proofs.entering.ServerPortPort.submit.Goals as goal

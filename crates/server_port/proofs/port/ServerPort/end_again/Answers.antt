@@ -1,6 +1,6 @@
 -- what came of the event once more
 use Rattle.std.proofs.Common.{◌∙◌, ◌∷◌, [], Ok, Err, ap, refl, subst, sym}
-use Rattle.server_gates.specs.declared.gate.Point.TheVariants.{Answered}
+use Rattle.server_port.specs.declared.gates.gate.Point.TheVariants.{Answered}
 use Rattle.server_log.specs.Noting.{IsAnswerNoted}
 use Rattle.server_port.specs.Holds.{IsEndNoted, end_points}
 use Rattle.server_port.specs.declared.port.ServerPort.{ServerPort}

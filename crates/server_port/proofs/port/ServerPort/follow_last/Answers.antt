@@ -1,6 +1,6 @@
 -- what came of the last message ends the run
 use Rattle.std.proofs.Common.{Some, ap, inl, subst, sym}
-use Rattle.shared_runs.specs.Runs.{Came, told_end}
+use Rattle.shared_waits.specs.runs.Runs.{Came, told_end}
 use Rattle.server_port.specs.Ends.{IsEnded}
 use Rattle.server_port.proofs.port.ServerPort.follow_last.Goals as goal
 

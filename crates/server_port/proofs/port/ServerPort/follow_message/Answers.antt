@@ -1,6 +1,6 @@
 -- it is noted, and passes the gate
 use Rattle.std.proofs.Common.{◌∙◌, ◌∷◌, [], ap, refl}
-use Rattle.server_gates.specs.declared.gate.Point.TheVariants.{Answered}
+use Rattle.server_port.specs.declared.gates.gate.Point.TheVariants.{Answered}
 use Rattle.server_log.specs.Noting.{IsAnswerNoted}
 use Rattle.server_port.specs.Histories.{passed, was_same}
 use Rattle.server_port.proofs.Handed.{twice}

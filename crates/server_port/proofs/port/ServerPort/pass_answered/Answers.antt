@@ -1,6 +1,6 @@
 -- by whether the message is held back
 use Rattle.std.proofs.Common.{refl, subst, sym}
-use Rattle.server_gates.specs.declared.gate.Point.TheVariants.{Answered}
+use Rattle.server_port.specs.declared.gates.gate.Point.TheVariants.{Answered}
 use Rattle.server_port.specs.Points.{ArePassed, answered_if}
 use Rattle.server_port.proofs.Passing.{one_passed}
 use Rattle.server_port.proofs.port.ServerPort.pass_answered.Goals as goal

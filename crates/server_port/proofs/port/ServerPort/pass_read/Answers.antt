@@ -1,7 +1,7 @@
 -- one more point is passed
 use Rattle.std.proofs.Common.{◌≡◌, ◌∙◌, refl, subst, arith}
 use Rattle.std.proofs.lemmas.Grind.{common_steps}
-use Rattle.server_gates.specs.declared.gate.Point.TheVariants.{FrameRead}
+use Rattle.server_port.specs.declared.gates.gate.Point.TheVariants.{FrameRead}
 use Rattle.server_port.specs.Holds.{read_points}
 use Rattle.server_port.specs.Points.{ArePassed}
 use Rattle.server_port.proofs.Passing.{one_passed, passed_once_more}

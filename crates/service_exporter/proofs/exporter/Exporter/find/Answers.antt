@@ -2,7 +2,7 @@
 use Rattle.std.proofs.Common.{◌+◌, List, sym, subst, arith}
 use Rattle.service_exporter.specs.Slots.{slot_number, AreBelow}
 use Rattle.service_exporter.specs.declared.slots.Slot.{Slot}
-use Rattle.numbered_slots.proofs.Places.{below_more}
+use Rattle.stores.proofs.numbered_slots.Places.{below_more}
 use Rattle.service_exporter.proofs.exporter.Exporter.find.Goals as goal
 
 pub route_on-route-requires-clause-small : goal.route_on-route-requires-clause-small

@@ -4,7 +4,7 @@ use Rattle.service_exporter.specs.Routes.{Exporter, Numbered, WithRoom, with_rou
 use Rattle.service_exporter.specs.Slots.{slot_number, held, standing_in, AreRising, AreBelow}
 use Rattle.service_exporter.specs.Tally.{IsTallied}
 use Rattle.service_exporter.specs.declared.slots.Slot.{Slot}
-use Rattle.numbered_slots.proofs.Places.{rising_added, below_added, below_more, entries-append}
+use Rattle.stores.proofs.numbered_slots.Places.{rising_added, below_added, below_more, entries-append}
 use Rattle.service_exporter.proofs.exporter.Exporter.open.Goals as goal
 
 pub invariant_of-self : goal.invariant_of-self

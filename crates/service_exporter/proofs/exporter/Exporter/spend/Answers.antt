@@ -3,7 +3,7 @@ use Rattle.std.proofs.Common.{◌+◌, List, rules, sym, subst, arith}
 use Rattle.service_exporter.specs.Slots.{slot_number, standing_in, AreBelow}
 use Rattle.service_exporter.specs.Tally.{IsTallied}
 use Rattle.service_exporter.specs.declared.slots.Slot.{Slot}
-use Rattle.numbered_slots.proofs.Places.{below_more}
+use Rattle.stores.proofs.numbered_slots.Places.{below_more}
 use Rattle.service_exporter.proofs.Places.{written_back}
 use Rattle.service_exporter.proofs.exporter.Exporter.spend.Goals as goal
 

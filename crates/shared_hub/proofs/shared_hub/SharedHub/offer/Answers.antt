@@ -1,5 +1,5 @@
 -- what the desk tells of an offer, as far as the seat knows it
-use Rattle.shared_desk.specs.Publishing.{inside}
+use Rattle.shared_hub.specs.desk.Publishing.{inside}
 use Rattle.shared_hub.proofs.Offered.{offered_by}
 use Rattle.shared_hub.proofs.shared_hub.SharedHub.offer.Goals as goal
 

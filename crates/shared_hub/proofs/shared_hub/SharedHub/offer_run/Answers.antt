@@ -1,6 +1,6 @@
 -- what the desk tells of each offer, as far as the seat knows it
-use Rattle.shared_runs.proofs.Runs.{run_along}
-use Rattle.shared_desk.specs.Publishing.{IsPublished}
+use Rattle.shared_waits.proofs.runs.Runs.{run_along}
+use Rattle.shared_hub.specs.desk.Publishing.{IsPublished}
 use Rattle.shared_hub.specs.Entering.{IsOfferedBy}
 use Rattle.shared_hub.proofs.Offered.{offered_by}
 use Rattle.shared_hub.proofs.shared_hub.SharedHub.offer_run.Goals as goal

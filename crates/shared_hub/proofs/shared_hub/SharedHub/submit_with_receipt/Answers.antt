@@ -5,8 +5,8 @@ use Rattle.events.specs.declared.event.Event.{Event}
 use Rattle.events.specs.declared.refusal.HubRefusal.{HubRefusal}
 use Rattle.hub.specs.Guarantee.{IsRouted}
 use Rattle.hub.specs.History.{State}
-use Rattle.shared_receipts.specs.Receipts.{Receipt}
-use Rattle.shared_desk.specs.Entering.{IsEntered}
+use Rattle.shared_waits.specs.receipts.Receipts.{Receipt}
+use Rattle.shared_hub.specs.desk.Entering.{IsEntered}
 use Rattle.shared_hub.specs.Entering.{IsSubmitted}
 use Rattle.shared_hub.proofs.shared_hub.SharedHub.submit_with_receipt.Goals as goal
 

@@ -2,7 +2,7 @@
 use Rattle.std.proofs.Common.{◌∙◌, List, sym, subst}
 use Rattle.hub.specs.History.{State}
 use Rattle.hub.specs.Segments.{HistoryPart}
-use Rattle.shared_receipts.specs.Receipts.{Receipt}
+use Rattle.shared_waits.specs.receipts.Receipts.{Receipt}
 use Rattle.shared_hub.specs.Audits.{IsFault}
 use Rattle.shared_hub.proofs.Entered.{due_beside}
 use Rattle.shared_hub.proofs.unlocked.Unlocked.room.Goals as goal

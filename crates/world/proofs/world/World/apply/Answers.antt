@@ -1,7 +1,7 @@
 -- a caller that is lenient to all is never told that an event is held back
 use Rattle.std.proofs.Common.{subst, Err}
 use Rattle.events.specs.declared.refusal.PublishRefusal.{PublishRefusal}
-use Rattle.world_leniency.specs.Held.{to_all}
+use Rattle.world_sessions.specs.leniency.Held.{to_all}
 use Rattle.world.specs.Holding.{IsAppliedIf}
 use Rattle.world.proofs.Applied.{never_held}
 use Rattle.world.proofs.world.World.apply.Goals as goal

@@ -4,14 +4,14 @@ use Rattle.service_exporter.specs.Routes.{Exporter}
 use Rattle.service_routes.specs.Routes.{Name, pruned}
 use Rattle.service_routes.proofs.Seen.{dead}
 use Rattle.world_routing.specs.World.{World}
-use Rattle.world_views.specs.Changing.{changed_by}
+use Rattle.world_routing.specs.Changing.{changed_by}
 use Rattle.world_routing.specs.Handing.{carried}
 use Rattle.world_routing.specs.declared.carrying.Routing.{Routing}
 use Rattle.world.specs.declared.change.Change.TheVariants.{Route}
-use Rattle.imports.specs.Views.{rows_of}
-use Rattle.world_deliveries.specs.Sessions.{drained}
-use Rattle.receiver_cache.proofs.Stays.{AreSeated, seats_with, current_taken}
-use Rattle.world_marks.proofs.Kept.{marked_seated}
+use Rattle.policy_ready.specs.imports.Views.{rows_of}
+use Rattle.world_sessions.specs.deliveries.Sessions.{drained}
+use Rattle.receivers.proofs.cache.Stays.{AreSeated, seats_with, current_taken}
+use Rattle.world_routing.proofs.marks.Kept.{marked_seated}
 use Rattle.world.specs.Changes.{done, items_in, pruned_world}
 use Rattle.world.specs.declared.change.Change.{Change}
 use Rattle.world.proofs.world.World.carry_out.Goals as goal

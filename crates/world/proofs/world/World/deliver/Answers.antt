@@ -1,12 +1,12 @@
 -- what is cached stays current, and each that stands keeps its marks
 use Rattle.std.proofs.Common.{List, sym, subst}
-use Rattle.imports.specs.Views.{rows_of}
+use Rattle.policy_ready.specs.imports.Views.{rows_of}
 use Rattle.world_rows.specs.declared.subscription.Subscription.{Subscription}
 use Rattle.world_subscriptions.specs.Counting.{entered_ids}
-use Rattle.receiver_views.specs.Marked.{AreMarked}
-use Rattle.receiver_cache.proofs.Stays.{AreSeated}
+use Rattle.receivers.specs.views.Marked.{AreMarked}
+use Rattle.receivers.proofs.cache.Stays.{AreSeated}
 use Rattle.world_routing.proofs.Delivering.{seated_handed}
-use Rattle.world_marks.proofs.Kept.{marked_seated, marked_in_turn}
+use Rattle.world_routing.proofs.marks.Kept.{marked_seated, marked_in_turn}
 use Rattle.world.proofs.world.World.deliver.Goals as goal
 
 pub invariant_of-self : goal.invariant_of-self

@@ -4,12 +4,12 @@ use Rattle.std.specs.List.{filter_map}
 use Rattle.service_exporter.specs.Routes.{Exporter}
 use Rattle.service_routes.specs.Routes.{Name, kept, pruned}
 use Rattle.service_routes.proofs.Seen.{dead}
-use Rattle.service_rows.specs.Rows.{renewed}
-use Rattle.world_deliveries.specs.declared.session.Session.{Session}
+use Rattle.service_routes.specs.service_rows.Rows.{renewed}
+use Rattle.world_sessions.specs.declared.deliveries.session.Session.{Session}
 use Rattle.world_sessions.specs.Renewal.{remaining}
 use Rattle.world_rows.specs.declared.subscription.Subscription.{Subscription}
-use Rattle.receiver_views.specs.Marked.{AreMarked}
-use Rattle.world_marks.proofs.Kept.{marked_filter}
+use Rattle.receivers.specs.views.Marked.{AreMarked}
+use Rattle.world_routing.proofs.marks.Kept.{marked_filter}
 use Rattle.world.specs.Reload.{stands_on}
 use Rattle.world.specs.Changes.{done, lost_id, pruned_world}
 use Rattle.world_routing.specs.World.{World}

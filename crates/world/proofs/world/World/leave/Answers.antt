@@ -1,11 +1,11 @@
 -- those of other sessions keep their marks
 use Rattle.std.proofs.Common.{◌==◌, List, filter, not, sym, subst}
-use Rattle.world_deliveries.specs.declared.session.Session.{Session}
+use Rattle.world_sessions.specs.declared.deliveries.session.Session.{Session}
 use Rattle.world_rows.specs.declared.subscription.Subscription.{Subscription}
-use Rattle.receiver_views.specs.Marked.{AreMarked}
-use Rattle.receiver_cache.proofs.Told.{empty_current}
-use Rattle.imports.specs.Views.{rows_of}
-use Rattle.world_marks.proofs.Kept.{marked_left}
+use Rattle.receivers.specs.views.Marked.{AreMarked}
+use Rattle.receivers.proofs.cache.Told.{empty_current}
+use Rattle.policy_ready.specs.imports.Views.{rows_of}
+use Rattle.world_routing.proofs.marks.Kept.{marked_left}
 use Rattle.world.proofs.world.World.leave.Goals as goal
 
 pub invariant_of-self : goal.invariant_of-self

@@ -1,10 +1,10 @@
 -- the others keep their marks
 use Rattle.std.proofs.Common.{List, sym, subst}
-use Rattle.imports.specs.Views.{rows_of}
+use Rattle.policy_ready.specs.imports.Views.{rows_of}
 use Rattle.world_rows.specs.declared.subscription.Subscription.{Subscription}
-use Rattle.receiver_views.specs.Marked.{AreMarked}
-use Rattle.receiver_cache.proofs.Told.{empty_current}
-use Rattle.world_marks.proofs.Kept.{marked_limited}
+use Rattle.receivers.specs.views.Marked.{AreMarked}
+use Rattle.receivers.proofs.cache.Told.{empty_current}
+use Rattle.world_routing.proofs.marks.Kept.{marked_limited}
 use Rattle.world.proofs.world.World.limit.Goals as goal
 
 pub invariant_of-self : goal.invariant_of-self

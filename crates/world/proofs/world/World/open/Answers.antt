@@ -1,11 +1,11 @@
 -- each that stands has a session already
 use Rattle.std.proofs.Common.{List, sym, subst}
-use Rattle.imports.specs.Views.{rows_of}
-use Rattle.world_deliveries.specs.declared.session.Session.{Session}
+use Rattle.policy_ready.specs.imports.Views.{rows_of}
+use Rattle.world_sessions.specs.declared.deliveries.session.Session.{Session}
 use Rattle.world_routing.specs.World.{World}
-use Rattle.receiver_views.specs.Marked.{AreMarked}
-use Rattle.receiver_cache.proofs.Told.{empty_current}
-use Rattle.world_marks.proofs.Kept.{marked_opened}
+use Rattle.receivers.specs.views.Marked.{AreMarked}
+use Rattle.receivers.proofs.cache.Told.{empty_current}
+use Rattle.world_routing.proofs.marks.Kept.{marked_opened}
 use Rattle.world.specs.Reload.{AllMayStand}
 use Rattle.world.proofs.Losing.{have_sessions}
 use Rattle.world.proofs.world.World.open.Goals as goal

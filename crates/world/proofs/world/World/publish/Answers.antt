@@ -7,14 +7,14 @@ use Rattle.std.specs.Prelude.{IfOk, IfSome}
 use Rattle.std.proofs.lemmas.Result.{err_from_is_err_and}
 use Rattle.subjects.specs.Subject.{Token}
 use Rattle.permissions.specs.Verdicts.{publish_verdict, IsJustifiedPublish}
-use Rattle.world_deliveries.specs.Sessions.{session_of}
-use Rattle.world_deliveries.specs.declared.session.Session.{Session}
+use Rattle.world_sessions.specs.deliveries.Sessions.{session_of}
+use Rattle.world_sessions.specs.declared.deliveries.session.Session.{Session}
 use Rattle.world.specs.Transition.{IsReasoned}
 use Rattle.world_routing.specs.World.{World}
 use Rattle.service_routes.specs.Routes.{pruned}
 use Rattle.service_routes.proofs.Seen.{dead}
 use Rattle.world_routing.specs.Publishing.{published_by, tables_of, IsPlanned}
-use Rattle.world_views.specs.Viewing.{tables_at}
+use Rattle.world_routing.specs.Viewing.{tables_at}
 use Rattle.world_routing.specs.declared.planning.Plan.{Plan}
 use Rattle.world.specs.Changes.{pruned_world, IsDecided}
 use Rattle.world.specs.declared.change.Decided.{Decided}

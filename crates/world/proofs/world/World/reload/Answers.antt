@@ -6,7 +6,7 @@ use Rattle.events.specs.declared.answer.Removed.{Removed}
 use Rattle.events.specs.declared.answer.Outcome.TheVariants.{Reloaded}
 use Rattle.service_routes.specs.Routes.{pruned}
 use Rattle.world_sessions.specs.Renewal.{user_again_of, closed_conns, remaining}
-use Rattle.receiver_views.specs.Marked.{AreMarked}
+use Rattle.receivers.specs.views.Marked.{AreMarked}
 use Rattle.world_routing.specs.World.{World}
 use Rattle.world.specs.Reload.{reloaded, removal_after}
 use Rattle.world.specs.Changes.{done, lost_id, pruned_world, IsDecided}

@@ -1,6 +1,6 @@
 -- the session's user's verdict decides, and it has its reason, whatever is answered
 use Rattle.std.proofs.Common.{◌∙◌, Ok, ap, sym, refl}
-use Rattle.world_deliveries.specs.Sessions.{session_of}
+use Rattle.world_sessions.specs.deliveries.Sessions.{session_of}
 use Rattle.world_routing.specs.World.{World}
 use Rattle.events.specs.declared.answer.Outcome.TheVariants.{Subscribed, SameSid, SubLimit, Denied}
 use Rattle.permissions.specs.declared.verdict.Verdict.TheVariants.{DeniedBy, NoAllow, NoQueueAllow}

@@ -3,7 +3,7 @@ use Rattle.std.proofs.Common.{◌≡◌, ◌∙◌, ◌++◌, ◌∷◌, [], ap,
 use Rattle.world_rows.specs.Rows.{id_of, held, entries_in, AreRising, AreEmpty}
 use Rattle.world_rows.specs.declared.rows.Row.{Row}
 use Rattle.world_rows.specs.declared.subscription.Subscription.{Subscription}
-use Rattle.numbered_slots.proofs.Places.{rising_added, entries-append}
+use Rattle.stores.proofs.numbered_slots.Places.{rising_added, entries-append}
 use Rattle.world_rows.proofs.Places.{empty_added}
 use Rattle.world_rows.proofs.rows.Rows.insert.Goals as goal
 

@@ -1,7 +1,7 @@
 -- what is kept is what passes the test
 use Rattle.std.proofs.Common.{◌≡◌, ◌∙◌, ap, rules, Bool, ℕ, filter}
 use Rattle.std.proofs.lemmas.Fn.{filter_same}
-use Rattle.numbered_slots.proofs.Places.{kept_slots, entries_left, rising_left}
+use Rattle.stores.proofs.numbered_slots.Places.{kept_slots, entries_left, rising_left}
 use Rattle.world_rows.specs.Rows.{id_of, held}
 use Rattle.world_rows.specs.declared.subscription.Subscription.{Subscription}
 use Rattle.world_rows.proofs.Places.{full_left}

@@ -1,6 +1,6 @@
 -- the session at the place of the connection is drained
 use Rattle.std.proofs.Common.{ap}
-use Rattle.world_deliveries.specs.Sessions.{drained}
+use Rattle.world_sessions.specs.deliveries.Sessions.{drained}
 use Rattle.world_sessions.proofs.Keys.{written_keys, written_there}
 use Rattle.world_sessions.specs.Renewal.{connection_of}
 use Rattle.world_sessions.proofs.sessions.Sessions.drain.Goals as goal

@@ -1,6 +1,6 @@
 -- the session at the place of the connection is ending
 use Rattle.std.proofs.Common.{ap}
-use Rattle.world_deliveries.specs.Replying.{ending}
+use Rattle.world_sessions.specs.deliveries.Replying.{ending}
 use Rattle.world_sessions.proofs.Keys.{written_keys, written_there}
 use Rattle.world_sessions.specs.Renewal.{connection_of}
 use Rattle.world_sessions.proofs.sessions.Sessions.end.Goals as goal

@@ -1,9 +1,9 @@
 -- the session at the place of the connection is offered the delivery
 use Rattle.std.proofs.Common.{◌∙◌, ap}
-use Rattle.world_deliveries.specs.Delivered.{offered}
+use Rattle.world_sessions.specs.deliveries.Delivered.{offered}
 use Rattle.world_sessions.specs.Renewal.{connection_of}
 use Rattle.world_sessions.proofs.Keys.{written_keys, written_there}
-use Rattle.world_deliveries.proofs.Changes.{offered-conn}
+use Rattle.world_sessions.proofs.deliveries.Changes.{offered-conn}
 use Rattle.world_sessions.proofs.sessions.Sessions.hand_over.Goals as goal
 
 pub invariant_of-self : goal.invariant_of-self

@@ -2,8 +2,8 @@
 use Rattle.std.proofs.Common.{◌∙◌, List, ap, sym, rules}
 use Rattle.std.specs.Vec.ExtractIf.{extract_if_rest}
 use Rattle.events.specs.declared.answer.Addressed.{Addressed}
-use Rattle.world_deliveries.specs.declared.session.Session.{Session}
-use Rattle.world_deliveries.specs.Delivered.{delivered}
+use Rattle.world_sessions.specs.declared.deliveries.session.Session.{Session}
+use Rattle.world_sessions.specs.deliveries.Delivered.{delivered}
 use Rattle.world_sessions.proofs.Lists.{taken_first, taken_none}
 use Rattle.world_sessions.proofs.sessions.Sessions.hand_over_each.Goals as goal
 

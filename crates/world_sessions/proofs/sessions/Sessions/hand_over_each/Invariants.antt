@@ -1,7 +1,7 @@
 -- what is left, handed over to the sessions as they are now, leaves what all leave
 use Rattle.std.proofs.Common.{◌≡◌}
 use Rattle.std.specs.Vec.ExtractIf.{extract_if_rest}
-use Rattle.world_deliveries.specs.Delivered.{delivered}
+use Rattle.world_sessions.specs.deliveries.Delivered.{delivered}
 use Rattle.world_sessions.proofs.sessions.Sessions.hand_over_each.Given as goal
 
 abbrev pub invariant-loop-next : goal.invariant-loop-next

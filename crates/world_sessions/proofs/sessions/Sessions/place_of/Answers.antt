@@ -1,7 +1,7 @@
 use Rattle.std.proofs.Common.{◌∙◌, List, ap}
-use Rattle.world_deliveries.specs.declared.session.Session.{Session}
+use Rattle.world_sessions.specs.declared.deliveries.session.Session.{Session}
 use Rattle.std.proofs.Common.{position}
-use Rattle.world_deliveries.proofs.Places.{place_from, is_of}
+use Rattle.world_sessions.proofs.deliveries.Places.{place_from, is_of}
 use Rattle.world_sessions.proofs.sessions.Sessions.place_of.Goals as goal
 
 pub returns : goal.returns

@@ -2,9 +2,9 @@
 use Rattle.std.proofs.Common.{◌≡◌, ◌∙◌, ◌==◌, ◌++◌, ◌∷◌, [], sym, ap, List, ℕ, length, map, arith}
 use Rattle.std.specs.List.{list_any}
 use Rattle.std.proofs.lemmas.List.{map-append, length-append}
-use Rattle.world_deliveries.specs.Sessions.{session_of}
+use Rattle.world_sessions.specs.deliveries.Sessions.{session_of}
 use Rattle.world_sessions.specs.Renewal.{connection_of}
-use Rattle.world_deliveries.specs.declared.session.Session.{Session}
+use Rattle.world_sessions.specs.declared.deliveries.session.Session.{Session}
 use Rattle.world_sessions.proofs.Keys.{no_key}
 use Rattle.world_sessions.proofs.sessions.Sessions.push.Goals as goal
 

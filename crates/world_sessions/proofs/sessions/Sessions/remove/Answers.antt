@@ -1,7 +1,7 @@
 -- the keys that are left are those of the sessions that are left
 use Rattle.std.proofs.Common.{◌∙◌, ◌==◌, not, sym, ap, filter, length, map, arith}
 use Rattle.world_sessions.specs.Renewal.{connection_of}
-use Rattle.world_deliveries.specs.declared.session.Session.{Session}
+use Rattle.world_sessions.specs.declared.deliveries.session.Session.{Session}
 use Rattle.world_sessions.proofs.Keys.{filter_keys}
 use Rattle.world_sessions.proofs.Lists.{filter-fewer}
 use Rattle.world_sessions.proofs.sessions.Sessions.remove.Goals as goal

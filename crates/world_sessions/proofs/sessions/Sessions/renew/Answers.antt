@@ -5,9 +5,9 @@ use Rattle.std.specs.List.{filter_map}
 use Rattle.std.proofs.lemmas.List.{length-map}
 use Rattle.policy_doc.specs.declared.document.PolicyDoc.{PolicyDoc}
 use Rattle.policy_ready.specs.declared.ready.User.{User}
-use Rattle.world_deliveries.specs.Sessions.{IsApart}
+use Rattle.world_sessions.specs.deliveries.Sessions.{IsApart}
 use Rattle.world_sessions.specs.Renewal.{user_again_of, stays, with_users, remaining, connection_of}
-use Rattle.world_deliveries.specs.declared.session.Session.{Session}
+use Rattle.world_sessions.specs.declared.deliveries.session.Session.{Session}
 use Rattle.world_sessions.proofs.Keys.{apart_by_keys}
 use Rattle.world_sessions.proofs.Remaining.{with_users_renewed, remaining-apart, remaining-fewer}
 use Rattle.world_sessions.proofs.sessions.Sessions.renew.Goals as goal

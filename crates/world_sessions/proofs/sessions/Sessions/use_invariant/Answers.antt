@@ -1,8 +1,8 @@
 -- no connection stands twice among the keys
 use Rattle.std.proofs.Common.{List, subst}
 use Rattle.std.specs.Prelude.{AllPairs}
-use Rattle.world_deliveries.specs.Sessions.{IsApart}
-use Rattle.world_deliveries.specs.declared.session.Session.{Session}
+use Rattle.world_sessions.specs.deliveries.Sessions.{IsApart}
+use Rattle.world_sessions.specs.declared.deliveries.session.Session.{Session}
 use Rattle.world_sessions.proofs.Keys.{apart_by_keys}
 use Rattle.world_sessions.proofs.sessions.Sessions.use_invariant.Goals as goal
 

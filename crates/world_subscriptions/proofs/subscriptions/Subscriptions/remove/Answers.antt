@@ -1,7 +1,7 @@
 -- what the connection has are the ids of its subscriptions
 use Rattle.std.proofs.Common.{◌==◌, ◌∙◌, List, filter, not, sym, ap, subst}
 use Rattle.std.specs.Map.{values_of}
-use Rattle.world_ids.specs.Sids.{id_in}
+use Rattle.world_rows.specs.ids.Sids.{id_in}
 use Rattle.world_subscriptions.specs.BySid.{AreSidsOf}
 use Rattle.world_rows.specs.declared.subscription.Subscription.{Subscription}
 use Rattle.world_subscriptions.proofs.BySid.{none_gone, own_gone, sids_closed}

@@ -1,8 +1,0 @@
-//! Policies as an operator writes them: JSON text (docs/POLICY.md).
-#![tactic(auto)]
-
-mod account;
-mod document;
-mod user;
-
-pub use document::{MOST_BYTES, read_policy};

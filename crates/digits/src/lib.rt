@@ -1,6 +1,0 @@
-//! Decimal digits: how many a text begins with, and the number of a few.
-#![tactic(auto)]
-
-mod digits;
-
-pub use digits::{count_digits, short_number};

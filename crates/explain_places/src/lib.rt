@@ -1,7 +1,0 @@
-//! Where in a policy's text the entry stands that decides a question (docs/POLICY.md, "Explaining a verdict").
-#![tactic(auto)]
-
-mod place;
-mod verdict;
-
-pub use place::deciding_place;

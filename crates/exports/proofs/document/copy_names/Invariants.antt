@@ -1,6 +1,0 @@
--- the copies so far are the names so far
-use Rattle.std.proofs.Common.{◌≡◌, take}
-use Rattle.exports.proofs.document.copy_names.Given as goal
-
-abbrev pub invariant-loop-name : goal.invariant-loop-name
-invariant-loop-name l = l.copies.items ≡ take l.name-index l.name-items

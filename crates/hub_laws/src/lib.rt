@@ -1,0 +1,6 @@
+//! Laws that follow from the routing guarantee, and laws of grants and routes over the whole history, each a sentence with a
+//! name. They have no code, and no program calls them.
+#![tactic(auto)]
+
+pub mod grants;
+pub mod routing;

@@ -1,8 +1,0 @@
--- each of the three is a fault
-use Rattle.hub.specs.Segments.{tail_of}
-use Rattle.hub_segments.proofs.Least.{fault-wrong}
-use Rattle.hub_segments.proofs.joining.tail_fault.Goals as goal
-
-pub returns-clause-wrong : goal.returns-clause-wrong
-returns-clause-wrong c =
-    fault-wrong c.args.segments.now c.args.hub.now (tail_of c.args.hub.now) _ _ _ _ _ c.lesser.ensures c.lesser-2.ensures c.misplaced_after-first.ensures.wrong c.misplaced_after-next.ensures.wrong c.tail_unbegun-unbegun.ensures.wrong

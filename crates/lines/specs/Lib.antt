@@ -1,0 +1,2 @@
+pub mod reload_lines
+pub mod script_text

@@ -1,0 +1,5 @@
+//! The lines that a reload prints, and what a line of a script says. It carries out nothing.
+#![tactic(auto)]
+
+pub mod reload_lines;
+pub mod script_text;

@@ -1,8 +1,0 @@
-//! The outbox of a session: what waits for a client, oldest first, and no more than its capacity.
-#![tactic(auto)]
-
-mod batch;
-mod bounded;
-
-pub use batch::Batch;
-pub use bounded::Outbox;

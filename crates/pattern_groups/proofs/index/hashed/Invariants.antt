@@ -1,7 +1,0 @@
--- the hashes and places of the patterns so far
-use Rattle.std.proofs.Common.{take, map}
-use Rattle.pattern_groups.specs.Places.{AreHashed}
-use Rattle.pattern_groups.proofs.index.hashed.Given as goal
-
-abbrev pub invariant-loop-pattern : goal.invariant-loop-pattern
-invariant-loop-pattern l = AreHashed (map (λ p. p.now) (take l.pattern-index l.patterns)) l.hashes.items l.choices.items

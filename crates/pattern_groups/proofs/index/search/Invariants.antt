@@ -1,8 +1,0 @@
--- the best so far, by the hashes of the choices that were looked at
-use Rattle.subjects.specs.Subject.{tokens_of}
-use Rattle.pattern_groups.specs.Links.{IsBest}
-use Rattle.pattern_groups.specs.Places.{IsOneOf}
-use Rattle.pattern_groups.proofs.index.search.Given as goal
-
-abbrev pub invariant-loop-at : goal.invariant-loop-at
-invariant-loop-at g l = IsBest (g.P.Patterns.passes l.patterns) l.hashes (IsOneOf l.choices l.at (tokens_of l.text)) l.best

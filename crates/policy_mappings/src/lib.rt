@@ -1,8 +1,0 @@
-//! The mappings of an account in a policy's JSON, walked (docs/GUARANTEE.md, "Mappings").
-#![tactic(auto)]
-
-mod destination;
-mod source;
-mod weight;
-
-pub use source::mappings_under;

@@ -1,0 +1,7 @@
+//! Where in a policy's text a user stands, and an entry of the permissions that hold for it: their paths.
+
+mod entry;
+mod user;
+
+pub use entry::entry_path;
+pub use user::user_path;

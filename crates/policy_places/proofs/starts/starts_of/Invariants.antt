@@ -1,8 +1,0 @@
--- the starts so far, and those of what is left, make the whole
-use Rattle.std.proofs.Common.{◌≡◌, ◌++◌, drop}
-use Rattle.policy_places.specs.Starts.{starts_from}
-use Rattle.policy_places.specs.declared.starts.Mode.TheVariants.{Between}
-use Rattle.policy_places.proofs.starts.starts_of.Given as goal
-
-abbrev pub invariant-loop-at : goal.invariant-loop-at
-invariant-loop-at l = l.starts.items ++ starts_from l.at l.mode (drop l.at l.text) ≡ starts_from 0 Between l.text

@@ -1,9 +1,0 @@
-//! The member of each queue group that is sent a message.
-#![tactic(auto)]
-
-mod choice;
-mod groups;
-mod number;
-
-pub use choice::{Choice, Member, choose};
-pub use number::chosen_number;

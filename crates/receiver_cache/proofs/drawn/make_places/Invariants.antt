@@ -1,8 +1,0 @@
--- what is cached was so before
-use Rattle.std.proofs.Common.{ℕ}
-use Rattle.receiver_cache.specs.Drawn.{IsCached}
-use Rattle.receiver_cache.specs.declared.drawn.Drawn.{Drawn}
-use Rattle.receiver_cache.proofs.drawn.make_places.Given as goal
-
-abbrev pub invariant-loop-draw : goal.invariant-loop-draw
-invariant-loop-draw l = (draw : ℕ) (drawn : Drawn) → IsCached l.by_draw.items draw drawn → IsCached l.fn.by_draw.items draw drawn

@@ -1,0 +1,5 @@
+//! The subscriptions that may be sent a message in a view, and those that are cached for the next one. It changes no table.
+#![tactic(auto)]
+
+pub mod cache;
+pub mod views;

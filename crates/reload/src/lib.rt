@@ -1,8 +1,0 @@
-//! A policy from its text to one that is ready to be asked, or the text's first fault. No hub is touched.
-#![tactic(auto)]
-
-mod fault;
-mod policy;
-
-pub use fault::ReloadFault;
-pub use policy::{prepare, read_valid_policy};

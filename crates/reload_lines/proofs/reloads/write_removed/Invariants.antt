@@ -1,7 +1,0 @@
-use Rattle.std.proofs.Common.{◌≡◌, ◌++◌, drop, flat_map}
-use Rattle.reload_lines.specs.Reloads.{removed_line}
-use Rattle.reload_lines.proofs.reloads.write_removed.Given as goal
-
--- the lines so far, and those of what is left, are all lines
-abbrev pub invariant-loop-one : goal.invariant-loop-one
-invariant-loop-one l = l.out.items ++ flat_map removed_line (drop l.one-index l.removed) ≡ l.fn.out.items ++ flat_map removed_line l.removed

@@ -1,8 +1,0 @@
-//! Why a server stops, and the line that tells it.
-#![tactic(auto)]
-
-mod end;
-mod fault;
-
-pub use end::Fault;
-pub use fault::{ServeFault, least};

@@ -1,9 +1,0 @@
-//! How many bytes the history's entries are counted for, and when the history is rotated.
-#![tactic(auto)]
-
-mod kept;
-mod own;
-mod rotation;
-
-pub use kept::{Added, Kept, Look};
-pub use rotation::Rotation;

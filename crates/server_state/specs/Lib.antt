@@ -1,0 +1,3 @@
+pub mod pacing
+pub mod history
+pub mod mail

@@ -1,9 +1,0 @@
-//! The work on one ready connection: its client's bytes in, what it is told out. It is generic over what is read and
-//! written, so that it can be shown with devices that fail.
-#![tactic(auto)]
-
-mod client;
-mod turn;
-
-pub use client::{Client, ReadContext};
-pub use turn::Turn;

@@ -1,5 +1,0 @@
-use Rattle.service_rows.proofs.Same.{by_tokens}
-use Rattle.service_rows.proofs.renewed.is_same_pattern.Goals as goal
-
-pub returns : goal.returns
-returns c = by_tokens c.args.one.now c.args.other.now c.is_like.result c.is_like.ensures

@@ -1,8 +1,0 @@
-//! The import rows of services: on which terms their requests are answered, and which of them another policy has again.
-#![tactic(auto)]
-
-mod renewed;
-mod terms;
-
-pub use renewed::RenewedRows;
-pub use terms::terms_of;

@@ -1,7 +1,0 @@
-//! What a seat was told of one event, and whether it is a verdict of the policy that it names (docs/GUARANTEE.md,
-//! "Threads").
-#![tactic(auto)]
-
-mod receipt;
-
-pub use receipt::Receipt;

@@ -1,8 +1,0 @@
-//! Messages of one connection that enter one after the other while a lock is held (docs/GUARANTEE.md, "Threads").
-#![tactic(auto)]
-
-mod hold;
-mod posts;
-
-pub use hold::{Hold, was_published};
-pub use posts::{Posts, word_of};

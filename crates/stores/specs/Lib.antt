@@ -1,0 +1,3 @@
+pub mod numbered_slots
+pub mod slot_cache
+pub mod outbox

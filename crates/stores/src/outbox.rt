@@ -1,0 +1,7 @@
+//! The outbox of a session: what waits for a client, oldest first, and no more than its capacity.
+
+mod batch;
+mod bounded;
+
+pub use batch::Batch;
+pub use bounded::Outbox;

@@ -1,6 +1,0 @@
-use Rattle.subjects.specs.Fault.{pattern_fault}
-use Rattle.subject_texts.proofs.Parsing.{found_is}
-use Rattle.subject_texts.proofs.texts.pattern_if.Goals as goal
-
-pub returns : goal.returns
-returns c = found_is c.args.text.now (pattern_fault c.args.text.now) c.parse.result _ c.parse.ensures.tokens c.in_ok-found.ensures

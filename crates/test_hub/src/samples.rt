@@ -1,0 +1,9 @@
+//! Policies and commands for tests. Where memory could not be had there is none, and a test that wants one fails. They
+//! have no clauses: what a test asserts, it computes.
+
+mod commands;
+mod policies;
+mod services;
+
+pub use commands::{connect, connect_as, publish, request, sub};
+pub use policies::{Given, ready_of};

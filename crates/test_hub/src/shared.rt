@@ -1,0 +1,10 @@
+//! Tests of `shared_hub` with threads, which see it as every caller does: by its public contract alone.
+
+#[cfg(test)]
+mod runs;
+#[cfg(test)]
+mod services;
+#[cfg(test)]
+mod tests;
+#[cfg(test)]
+mod worker;

@@ -1,6 +1,0 @@
-use Rattle.std.proofs.Common.{◌≡◌, ℕ, ◌<◌, get_or, true}
-use Rattle.wire_lines.specs.Field.{is_field_byte}
-use Rattle.wire_lines.proofs.field.field_len.Given as goal
-
-abbrev pub invariant-loop-i : goal.invariant-loop-i
-invariant-loop-i l = (k : ℕ) → k < l.i → is_field_byte (get_or l.text k 0) ≡ true

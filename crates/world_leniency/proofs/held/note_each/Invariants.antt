@@ -1,7 +1,0 @@
--- who of the items so far
-use Rattle.std.proofs.Common.{◌≡◌, ◌++◌, take}
-use Rattle.world_leniency.specs.Held.{held_among}
-use Rattle.world_leniency.proofs.held.note_each.Given as goal
-
-abbrev pub invariant-loop-item : goal.invariant-loop-item
-invariant-loop-item g l = l.held.items ≡ l.initial.held.items ++ held_among (g.T.Lenient.terms l.lenient) l.sessions (take l.item-index l.items)

@@ -1,0 +1,11 @@
+-- what is retained is what is kept
+use Rattle.std.proofs.Common.{◌∙◌, ap, sym, map, rules}
+use Rattle.std.proofs.lemmas.Fn.{filter_same}
+use Rattle.world_subscriptions.specs.groups.Chosen.{is_kept}
+use Rattle.world_subscriptions.proofs.groups.Chosen.{filter-map}
+use Rattle.world_subscriptions.proofs.groups.groups.keep_these.Goals as goal
+
+pub returns : goal.returns
+returns c =
+    ap (map (λ s. s.now)) (filter_same _ (λ s. is_kept c.args.ids.now.keys s.now) _ (λ x b f' called. search rules) _ _ c.retain.ensures.filtered)
+    ∙ sym (filter-map (is_kept c.args.ids.now.keys) (λ s. s.now) c.args.all.now.items)
