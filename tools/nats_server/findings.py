@@ -1,4 +1,4 @@
-"""What natsd hasn't of a configuration."""
+"""What of a configuration isn't in natsd as it was in nats-server."""
 
 
 class Unserved(Exception):
@@ -6,7 +6,7 @@ class Unserved(Exception):
 
 
 class Findings:
-    """What natsd hasn't: what is left out and changes who may do what, and what is only noted."""
+    """What isn't in the policy, what does something else there, which passwords lack, and what is only noted."""
 
     def __init__(self, file):
         self.file, self.found = file, {}
@@ -14,10 +14,17 @@ class Findings:
     def left_out(self, place, text):
         self.found[place, f"left out: {text}"] = True
 
+    def changed(self, place, text):
+        self.found[place, f"changed: {text}"] = True
+
+    def fill_in(self, place, text):
+        self.found[place, f"fill in: {text}"] = True
+
     def note(self, place, text):
         self.found[place, f"note: {text}"] = False
 
-    def changes_rights(self):
+    def change_anything(self):
+        """Returns whether something works otherwise than before."""
         return any(self.found.values())
 
     def lines(self):
