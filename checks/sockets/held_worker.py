@@ -10,19 +10,19 @@ import select
 
 from clients import Client, Failed, Server, run, want
 
+HELD = pathlib.Path(__file__).resolve().parent.parent.parent / "out" / "unproved" / "test_held"
 TURNS = 1_000_000
 SECONDS = 0.3
 PUB = b"PUB here 2\r\nhi\r\n"
 
 
 class Held(Server):
-    """The program `test_held`, which was built beside the program that is checked. It looks so many times at most."""
+    """The program `test_held`, in the place of the one that is checked. It looks so many times at most."""
 
     def __init__(self, program, turns, **more):
-        held = (pathlib.Path(program).parent / "../../test_held/out/test_held").resolve()
-        if not held.exists():
-            raise Failed(f"there is no {held}: 'rt run' in crates/test_held builds it")
-        super().__init__(held, turns, **more)
+        if not HELD.exists():
+            raise Failed(f"there is no {HELD}: 'tools/build_optimized test_held out/unproved/test_held' builds it")
+        super().__init__(HELD, turns, **more)
 
     def command(self, program, listen, words):
         return [program, *words]

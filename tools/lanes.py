@@ -1,0 +1,66 @@
+"""Runs the tasks of `rt ci` side by side, for tools/rt
+
+The kit gives each task one processor to its end where RT_JOBS says how many there may be, and else plans more memory than
+checks take. Here as many run as there are lanes, those with the longest chain of others behind them first. The first of these
+gets two processors, since all others wait for it, and up to four where nothing else can be done meanwhile. A chain is as long as
+the lines of code, definitions and proofs in it.
+"""
+
+import concurrent.futures
+import contextlib
+import os
+
+# A check with more jobs than this gains little.
+MOST_JOBS = 4
+
+
+def weight(rt, key, lines):
+    """Returns how much work a task is: the lines of a crate that is proved, and what the kit says of others."""
+    if key[1] != "proof":
+        return lines
+    files = rt.rtlib.files_of(f"{os.getcwd()}/crates/{key[0]}")
+    return sum((rt.rtlib.text_of(it) or "").count("\n") for it in files)
+
+
+def chains(rt, tasks):
+    """Returns for each task the work of the longest chain that begins with it. Each task comes after those that it waits for."""
+    behind = dict.fromkeys(tasks, 0)
+    for key in reversed([*tasks]):
+        behind[key] += weight(rt, key, tasks[key][1])
+        for it in tasks[key][0]:
+            behind[it] = max(behind[it], behind[key])
+    return behind
+
+
+def jobs_of(key, is_first, idle, waiting):
+    """Returns how many of the idle processors a task gets, where so many tasks wait for one, this among them."""
+    if key[1] == "edits":
+        return 1
+    return max(1, min(MOST_JOBS, idle, max(idle // max(1, waiting), 2 if is_first else 1)))
+
+
+def replace(rt, lanes):
+    """Has the kit's `rt ci` run its tasks in this way."""
+
+    def in_lanes(tasks):
+        behind = chains(rt, tasks)
+        left, running, given = sorted(tasks, key=lambda it: -behind[it]), {}, {}
+        # (a kit may have left what it copied for its edits)
+        with getattr(rt, "ending", contextlib.nullcontext)(), concurrent.futures.ThreadPoolExecutor(lanes) as pool:
+            while left or running:
+                ready = [it for it in left if all(below in given for below in tasks[it][0])]
+                for at, key in enumerate(ready):
+                    idle = lanes - sum(jobs for _, jobs in running.values())
+                    if idle < 1:
+                        break
+                    waiting = sum(tasks[it][1] > 0 for it in ready[at:])
+                    is_first = at == 0 and not any(behind[it] > behind[key] for it, _ in running.values())
+                    jobs = jobs_of(key, is_first, idle, waiting)
+                    left.remove(key)
+                    running[pool.submit(tasks[key][3], given, jobs)] = key, jobs
+                ended = concurrent.futures.wait(running, return_when=concurrent.futures.FIRST_COMPLETED).done
+                for it in ended:
+                    given[running.pop(it)[0]] = it.result()
+        return given
+
+    rt.in_lanes = in_lanes
