@@ -1,9 +1,9 @@
-use crate::samples::{connect, publish};
 use hub::{Caps, Command, Event, Hub, Item, Outcome, Ready};
 use policy_text::reload::prepare;
 use std::alloc::Global;
 use std::hash::RandomState;
 use std::test::Fail;
+use test_samples::{connect, publish};
 
 /// What a message met.
 #[derive(Clone, Copy, Debug, PartialEq, Eq)]

@@ -1,10 +1,10 @@
-use crate::samples::{connect, publish, sub};
 use base::NoMemory;
 use hub::{Answer, Caps, Command, Event, Hub, HubRefusal, Ready, Segment};
 use policy_doc::Policy;
 use std::alloc::Global;
 use std::hash::RandomState;
 use std::test::Fail;
+use test_samples::{connect, publish, sub};
 
 /// What a test asks of a hub, all but the last two for connection 1.
 #[derive(Clone, Copy)]

@@ -1,11 +1,12 @@
 //! What the threads of the tests do.
-use crate::samples::{Given, connect, publish, ready_of, sub};
-use crate::shared::services::{chat, make_requests, serve};
-use hub::{Command, Delivery, Entry, Event, HubRefusal, Outcome, Port, Ready, Segment};
-use shared_hub::{Receipt, Run, Seat, SharedHub, SharedPort};
+use crate::services::{chat, make_requests, serve};
+use events::{Command, Delivery, Entry, Event, HubRefusal, Outcome, Port};
+use policy_ready::Ready;
+use shared_hub::{Receipt, Run, Seat, Segment, SharedHub, SharedPort};
 use std::alloc::Global;
 use std::sync::Wait;
 use std::time::{Clock, Duration};
+use test_samples::{Given, connect, publish, ready_of, sub};
 
 /// What a thread does with its seat, on a connection of its own.
 #[derive(Clone, Copy)]

@@ -1,5 +1,5 @@
 //! Accounts of which one imports services of the other.
-use crate::samples::policies::{entry, one_user};
+use crate::policies::{entry, one_user};
 use base::Items;
 use bytes::Bytes;
 use policy_doc::permission_doc::{Direction, PermDoc, PermEntry};

@@ -1,11 +1,12 @@
 ghost use Rattle.std.specs.Prelude.{◌≡◌};
 
-use crate::samples::{Given, connect, ready_of, sub};
 use base::{Copying, Shared as Handle};
-use hub::{Caps, Command, Entry, Event, Hub, Outcome, Ready, Segment};
-use shared_hub::{Audit, AuditFault, Parts, Receipt, Run, Seat};
+use events::{Command, Entry, Event, Outcome};
+use policy_ready::Ready;
+use shared_hub::{Audit, AuditFault, Caps, Hub, Parts, Receipt, Run, Seat, Segment};
 use std::alloc::Global;
 use std::hash::RandomState;
+use test_samples::{Given, connect, ready_of, sub};
 
 /// What an audit of all parts tells.
 #[derive(Drop)]

@@ -2,11 +2,9 @@
 ghost use Rattle.std.specs.Prelude.{◌≡◌, length};
 
 use crate::audits::{Totals, audited, has_a_gap, refuses_foreign, refuses_forged};
-use crate::samples::{Given, ready_of};
-use crate::shared::services::are_judged;
-use crate::shared::worker::{Place, Row, Site, Stock, Worker};
-use hub::{Caps, Hub};
-use shared_hub::{Blank, Parts, Receipt, Run, Seat, SharedHub, Unlocked};
+use crate::services::are_judged;
+use crate::worker::{Place, Row, Site, Stock, Worker};
+use shared_hub::{Blank, Caps, Hub, Parts, Receipt, Run, Seat, SharedHub, Unlocked};
 use std::alloc::Global;
 use std::hash::RandomState;
 use std::marker::Brand;
@@ -14,6 +12,7 @@ use std::sync::Wait;
 use std::thread;
 use std::thread::Threads;
 use std::time::Clock;
+use test_samples::{Given, ready_of};
 
 /// Which audits should be refused before that of all parts.
 #[derive(Clone, Copy)]

@@ -9,8 +9,8 @@ use Rattle.std.proofs.alloc.Global.TheSendSync as global
 use Rattle.std.specs.declared.sync.ledger.Ledger.{Ghosts as Ledgers}
 use Rattle.shared_hub.specs.declared.desk.desk.Run.{Ghosts as Runs}
 use Rattle.shared_hub.proofs.Crossing.{shared_sync}
-use Rattle.test_hub.specs.contracts.shared.worker.Place as place
-use Rattle.test_hub.proofs.shared.runs.worked.Goals as goal
+use Rattle.test_shared_hub.specs.contracts.worker.Place as place
+use Rattle.test_shared_hub.proofs.runs.worked.Goals as goal
 
 place_sync : (κ : NamedLft) (L R : RattleType) (r : Runs L.Denot) (l : Ledgers L.Denot) → IsSync R → IsSync (place.the_row κ L R r l)
 place_sync κ L R r l s =

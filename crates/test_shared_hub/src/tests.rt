@@ -1,12 +1,12 @@
 use crate::audits::receipt_of;
-use crate::samples::{Given, ready_of, sub};
-use crate::shared::runs::{Plan, run};
-use crate::shared::worker::{Ask, Row, Said};
-use hub::{Entry, Event, Outcome};
+use crate::runs::{Plan, run};
+use crate::worker::{Ask, Row, Said};
+use events::{Entry, Event, Outcome};
 use permissions::Verdict;
 use std::alloc::Global;
 use std::hash::RandomState;
 use std::test::Fail;
+use test_samples::{Given, ready_of, sub};
 
 const TALK_A: &[Row] = &[
     (Ask::Connect, Said::Connected),

@@ -1,9 +1,9 @@
 //! Requests to a service of another account, and messages that policies judge differently.
-use crate::samples::{connect_as, publish, request, sub};
-use crate::shared::worker::{Desk, Said, submit};
-use hub::{Command, Outcome};
+use crate::worker::{Desk, Said, submit};
+use events::{Command, Outcome};
 use shared_hub::Receipt;
 use std::alloc::Global;
+use test_samples::{connect_as, publish, request, sub};
 
 /// A subject that some policies don't let user demo be sent.
 const SECRET: &str = "x.secret";

@@ -1,4 +1,4 @@
-use crate::samples::services::served;
+use crate::services::served;
 use base::Items;
 use bytes::Bytes;
 use policy_doc::permission_doc::{Direction, PermDoc, PermEntry};
