@@ -1,9 +1,9 @@
 """Runs the tasks of `rt ci` side by side, for tools/rt
 
 The kit gives each task one processor to its end where RT_JOBS says how many there may be, and else plans more memory than
-checks take. Here as many run as there are lanes, those with the longest chain of others behind them first. The first of these
-gets two processors, since all others wait for it, and up to four where nothing else can be done meanwhile. A chain is as long as
-the lines of code, definitions and proofs in it.
+checks take. Here as many run as there are lanes, those with the longest chain of others after them first. The first of these
+begins even where no lane is free, and has three jobs at least, since all others wait for it; it has four where nothing else can
+be done meanwhile. A chain is as long as the lines of code, definitions and proofs in it.
 """
 
 import concurrent.futures
@@ -12,6 +12,8 @@ import os
 
 # A check with more jobs than this gains little.
 MOST_JOBS = 4
+# How many jobs the check has for which all others wait.
+FIRST_JOBS = 3
 
 
 def weight(rt, key, lines):
@@ -33,10 +35,10 @@ def chains(rt, tasks):
 
 
 def jobs_of(key, is_first, idle, waiting):
-    """Returns how many of the idle processors a task gets, where so many tasks wait for one, this among them."""
+    """Returns how many jobs a task gets, of the idle processors where so many tasks wait for one, this among them."""
     if key[1] == "edits":
         return 1
-    return max(1, min(MOST_JOBS, idle, max(idle // max(1, waiting), 2 if is_first else 1)))
+    return max(FIRST_JOBS if is_first else 1, min(MOST_JOBS, idle, idle // max(1, waiting)))
 
 
 def replace(rt, lanes):
@@ -46,15 +48,15 @@ def replace(rt, lanes):
         behind = chains(rt, tasks)
         left, running, given = sorted(tasks, key=lambda it: -behind[it]), {}, {}
         # (a kit may have left what it copied for its edits)
-        with getattr(rt, "ending", contextlib.nullcontext)(), concurrent.futures.ThreadPoolExecutor(lanes) as pool:
+        with getattr(rt, "ending", contextlib.nullcontext)(), concurrent.futures.ThreadPoolExecutor(2 * lanes) as pool:
             while left or running:
                 ready = [it for it in left if all(below in given for below in tasks[it][0])]
                 for at, key in enumerate(ready):
                     idle = lanes - sum(jobs for _, jobs in running.values())
-                    if idle < 1:
+                    is_first = at == 0 and key[1] == "proof" and all(behind[it] < behind[key] for it, _ in running.values())
+                    if idle < 1 and not is_first:
                         break
                     waiting = sum(tasks[it][1] > 0 for it in ready[at:])
-                    is_first = at == 0 and not any(behind[it] > behind[key] for it, _ in running.values())
                     jobs = jobs_of(key, is_first, idle, waiting)
                     left.remove(key)
                     running[pool.submit(tasks[key][3], given, jobs)] = key, jobs
