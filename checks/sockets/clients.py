@@ -118,7 +118,9 @@ class Server:
         """Waits for the next line that was printed."""
         with self.changed:
             self.changed.wait_for(lambda: self.read < len(self.lines) or self.is_at_end, limit)
-            want(self.read < len(self.lines), f"nothing more was printed after {self.lines[-3:]}; {self.said()}")
+            # (what stands on standard error grows with each reload, so it is read only for a fault)
+            if self.read == len(self.lines):
+                raise Failed(f"nothing more was printed after {self.lines[-3:]}; {self.said()}")
             self.read += 1
             return self.lines[self.read - 1]
 
