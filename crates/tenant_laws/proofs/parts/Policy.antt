@@ -17,6 +17,7 @@ use Rattle.policy_doc.specs.Accounts.{Name, has_name}
 use Rattle.policy_doc.specs.declared.document.ImportDoc.{ImportDoc}
 use Rattle.policy_doc.specs.declared.document.NamedAccount.{NamedAccount}
 use Rattle.policy_doc.specs.declared.document.PolicyDoc.{PolicyDoc}
+use Rattle.policy_doc.specs.declared.document.Version.TheVariants.{Two}
 use Rattle.policy_sets.specs.Sets.{Ends, IsClosed, ends_at, ends_in, ends_of}
 use Rattle.policy_doc.specs.declared.document.UserDoc.{UserDoc}
 use Rattle.policy_ready.specs.Drawing.{SourceMap}
@@ -31,10 +32,19 @@ use Rattle.policy_ready.specs.declared.imports.view.ViewItem.{ViewItem}
 use Rattle.policy_ready.specs.declared.imports.view.ViewItem.TheVariants.{At, TooLong}
 use Rattle.policy_ready.specs.declared.imports.view.Way.TheVariants.{Own}
 use Rattle.service_routes.specs.service_rows.Rows.{renewed_for, renewed_in, import_at, is_same_service, new_row, no_terms, terms_at, terms_by, terms_for}
-use Rattle.tenant_laws.specs.parts.Laws.{AgainInPart, LoginsInPart, TermsInPart, UsersArePart, UsersInPart, ViewsInPart, ViewsStay, IsViewWithin, IsWayWithin}
+use Rattle.tenant_laws.specs.parts.Laws.{AgainInPart, IsWhatApplies, LoginsInPart, TermsInPart, UsersArePart, UsersInPart, ViewsInPart, ViewsStay, IsViewWithin, IsWayWithin}
 use Rattle.tenant_laws.specs.parts.Part.{account_held, part_of, user_held}
 use Rattle.world.proofs.Handed.{find-map, find-filter}
 use Rattle.tenant_laws.proofs.parts.Lists.{all_or_none, find_if_kept, flat_changed, flat_kept, given_kept, map_changed}
+
+-- ---- the part
+
+-- the policy of the accounts of a part
+abbrev of_accounts : List NamedAccount → PolicyDoc
+of_accounts accounts = record { accounts = accounts; version = Two; default_permissions = None }
+
+pub what_applies : IsWhatApplies
+what_applies K one other same = ap of_accounts same
 
 -- ---- users
 

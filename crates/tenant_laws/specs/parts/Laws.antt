@@ -17,7 +17,7 @@ use Rattle.service_exporter.specs.declared.route.NewRow.{NewRow}
 use Rattle.service_exporter.specs.declared.route.Route.{Route}
 use Rattle.service_routes.specs.Routes.{exporter_of, kept, opened, pruned, spent}
 use Rattle.service_routes.specs.service_rows.Rows.{renewed, terms_of}
-use Rattle.tenant_laws.specs.parts.Part.{exporters_of, part_of}
+use Rattle.tenant_laws.specs.parts.Part.{accounts_of, exporters_of, part_of}
 
 -- ---- routes
 
@@ -43,6 +43,12 @@ abbrev pub KeepsInPart : Type 0
 KeepsInPart = (K : Name → Bool) (row_again : Row → Option NewRow) (all : List (Name × Exporter)) → exporters_of K (kept row_again all) ≡ kept row_again (exporters_of K all)
 
 -- ---- a policy
+
+-- the part is what applies to the set's accounts, and nothing else: it is the same of two policies in which that is the
+-- same
+abbrev pub IsWhatApplies : Type 0
+IsWhatApplies = (K : Name → Bool) (one other : PolicyDoc) → accounts_of K one ≡ accounts_of K other →
+    part_of K one ≡ part_of K other
 
 -- where the set is closed, a message of one of its accounts has the views that the part gives, whatever responses there are
 abbrev pub ViewsInPart : Type 0

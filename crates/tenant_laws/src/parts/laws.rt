@@ -1,6 +1,6 @@
 //! What holds of the definitions alone.
 ghost use Rattle.tenant_laws.specs.parts.Least.{AgainByLeast, HasItself, LeastInPart};
-ghost use Rattle.tenant_laws.specs.parts.Laws.{AgainInPart, HasInPart, KeepsInPart, LoginsInPart, OpensInPart, PrunesInPart, SpendsInPart, TermsInPart, UsersArePart, UsersInPart, ViewsInPart, ViewsStay};
+ghost use Rattle.tenant_laws.specs.parts.Laws.{AgainInPart, HasInPart, IsWhatApplies, KeepsInPart, LoginsInPart, OpensInPart, PrunesInPart, SpendsInPart, TermsInPart, UsersArePart, UsersInPart, ViewsInPart, ViewsStay};
 
 /// Tells that the response routes of a set of exporters, and the last numbers that they gave, go by the routes that are opened and
 /// ended of these exporters alone, by the moment, and by the rows that another policy has again. What others open changes nothing.
@@ -12,9 +12,11 @@ pub fn routes_by_part()
     ensures keeps { KeepsInPart }
 {}
 
-/// Tells of a closed set of accounts that the views of its messages, the terms of its service rows and its users go by its own
-/// part of the policy alone, and that its messages are seen in its own accounts alone.
+/// Tells that the part of a set of accounts is what applies to them and nothing else, so that neither the version nor
+/// other accounts change it. Tells of a closed set that the views of its messages, the terms of its service rows and its
+/// users go by its own part of the policy alone, and that its messages are seen in its own accounts alone.
 pub fn policy_by_part()
+    ensures applies { IsWhatApplies }
     ensures views { ViewsInPart }
     ensures stay { ViewsStay }
     ensures terms { TermsInPart }

@@ -1,5 +1,8 @@
-use Rattle.tenant_laws.proofs.parts.Policy.{views_in_part, views_stay, terms_in_part, again_in_part, users_in_part, users_kept, logins_in_part}
+use Rattle.tenant_laws.proofs.parts.Policy.{what_applies, views_in_part, views_stay, terms_in_part, again_in_part, users_in_part, users_kept, logins_in_part}
 use Rattle.tenant_laws.proofs.parts.laws.policy_by_part.Goals as goal
+
+pub returns-clause-applies : goal.returns-clause-applies
+returns-clause-applies c = what_applies
 
 pub returns-clause-views : goal.returns-clause-views
 returns-clause-views c = views_in_part
