@@ -1,0 +1,25 @@
+-- Reasons, and which of them has all questions of another.
+use Rattle.std.specs.Prelude.{◌≡◌, ◌<◌, ◌&&◌, ℕ, Bool, true, false, List, length, not}
+use Rattle.std.specs.List.{list_any, slice_index_or}
+use Rattle.subjects.specs.Subject.{Token, covers, in_set}
+use Rattle.pattern_sets.specs.declared.search.Reason.{Reason}
+
+abbrev pub subject_of : Reason → List Token
+subject_of reason = reason.subject.now
+
+-- whatever is of one reason is of another
+abbrev pub is_within : Reason → Reason → Bool
+is_within narrow wide = covers wide.subject.now narrow.subject.now && covers wide.queue.now narrow.queue.now
+
+-- one of these reasons has all of another, or none has
+abbrev pub IsCovered : List Reason → Reason → Bool → Type 0
+IsCovered reasons reason true = (i : ℕ) × (i < length reasons) × (is_within reason (slice_index_or reasons i reason) ≡ true)
+IsCovered reasons reason false = (i : ℕ) → i < length reasons → is_within reason (slice_index_or reasons i reason) ≡ false
+
+-- a subject of some patterns, and of none of others
+abbrev pub is_member : {P : Type 0} → (P → List Token) → List P → List P → List Token → Bool
+is_member of patterns less subject = list_any (λ p. in_set (of p) subject) patterns && not (list_any (λ p. in_set (of p) subject) less)
+
+-- a subject of one set that isn't one of another
+abbrev pub is_between : {P : Type 0} → (P → List Token) → List P → List P → List P → List P → List Token → Bool
+is_between of patterns less others others_less asked = is_member of patterns less asked && not (is_member of others others_less asked)
