@@ -2,8 +2,8 @@
 
 The kit gives each task one processor to its end where RT_JOBS says how many there may be, and else plans more memory than
 checks take. Here as many run as there are lanes, those with the longest chain of others after them first. The first of these
-begins even where no lane is free, and has three jobs at least, since all others wait for it; it has four where nothing else can
-be done meanwhile. A chain is as long as the lines of code, definitions and proofs in it.
+begins even where no lane is free, takes a single one, and has three jobs at least, since all others wait for it; it has four
+where nothing else can be done meanwhile. A chain is as long as the lines of code, definitions and proofs in it.
 """
 
 import concurrent.futures
@@ -52,14 +52,14 @@ def replace(rt, lanes):
             while left or running:
                 ready = [it for it in left if all(below in given for below in tasks[it][0])]
                 for at, key in enumerate(ready):
-                    idle = lanes - sum(jobs for _, jobs in running.values())
+                    idle = lanes - sum(taken for _, taken in running.values())
                     is_first = at == 0 and key[1] == "proof" and all(behind[it] < behind[key] for it, _ in running.values())
                     if idle < 1 and not is_first:
                         break
                     waiting = sum(tasks[it][1] > 0 for it in ready[at:])
                     jobs = jobs_of(key, is_first, idle, waiting)
                     left.remove(key)
-                    running[pool.submit(tasks[key][3], given, jobs)] = key, jobs
+                    running[pool.submit(tasks[key][3], given, jobs)] = key, 1 if is_first else jobs
                 ended = concurrent.futures.wait(running, return_when=concurrent.futures.FIRST_COMPLETED).done
                 for it in ended:
                     given[running.pop(it)[0]] = it.result()
