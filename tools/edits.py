@@ -11,6 +11,7 @@ A line `only: FUNCTION ..` in an edit, which the kit passes over, names the func
 
 import concurrent.futures
 import os
+import pathlib
 import re
 import time
 
@@ -80,6 +81,16 @@ def module_of(path):
     return [] if words in (["lib"], ["main"]) else words[:-1] if words[-1] == "mod" else words
 
 
+def module_with(folder, path, function):
+    """Returns the module by which rattle names a function of a file: for a method that of its type, which may stand elsewhere."""
+    of = function.partition("::")[0] if "::" in function else None
+    declared = re.compile(rf"^(?:pub(?:\([^)]*\))? )?(?:struct|enum) {of}\b", re.M)
+    for it in sorted(pathlib.Path(folder, "src").rglob("*.rt")) if of else ():
+        if declared.search(it.read_text(encoding="utf-8")):
+            return module_of(str(it.relative_to(folder)))
+    return module_of(path)
+
+
 def hinted(text):
     """Returns the functions that an edit names as those whose proofs refuse it."""
     return [name for line in text.split("\n") if line.startswith("only: ") for name in line.split()[1:]]
@@ -102,7 +113,7 @@ def changed(text, folder):
             new, source = line.removeprefix("new:").removeprefix(" "), sources[path]
             within = function_at(source, source.index(old) + len(os.path.commonprefix([old, new])))
             if within:
-                found.append("::".join([*module_of(path), within]))
+                found.append("::".join([*module_with(folder, path, within), within]))
             sources[path], old = source.replace(old, new), None
     return list(dict.fromkeys(found))
 
