@@ -1,9 +1,11 @@
 -- What the text of a policy comes to (docs/POLICY.md, "The text of a policy").
-use Rattle.std.specs.Prelude.{◌≡◌, ℕ, List, [], false, Option, Some, None, Result, Ok, Err}
+use Rattle.std.specs.Prelude.{◌≡◌, ℕ, List, [], true, false, Option, Some, None, Result, Ok, Err}
 use Rattle.std.specs.Option.{option_map_or}
-use Rattle.policy_doc.specs.Document.{name_at, policy_fault}
+use Rattle.policy_doc.specs.Document.{name_at, policy_fault, IsValidPolicy}
+use Rattle.policy_doc.specs.declared.document.NamedAccount.{NamedAccount}
 use Rattle.policy_doc.specs.declared.document.PolicyDoc.{PolicyDoc}
 use Rattle.policy_doc.specs.declared.fault.PolicyFault.{PolicyFault}
+use Rattle.policy_doc.specs.Faults as policy
 use Rattle.policy_doc.specs.Faults.{fault_place}
 use Rattle.policy_doc.specs.declared.fault.Place.{Place}
 use Rattle.policy_text.specs.account_config.Policy.{policy_of}
@@ -11,6 +13,11 @@ use Rattle.policy_walk.specs.declared.fault.ConfigFault.{ConfigFault}
 use Rattle.policy_text.specs.reload.Fault.{is_memory}
 use Rattle.policy_text.specs.declared.reload.fault.ReloadFault.{ReloadFault}
 use Rattle.policy_text.specs.declared.reload.fault.ReloadFault.TheVariants.{Config, Policy}
+
+-- the name of the account at a place of accounts, if there are some
+abbrev pub name_in : Option (List NamedAccount) → ℕ → List ℕ
+name_in None place = []
+name_in (Some accounts) place = name_at accounts place
 
 -- the account whose row has a fault
 abbrev pub account_in : PolicyDoc → PolicyFault → List ℕ
@@ -33,3 +40,13 @@ prepared text = judged (policy_of text)
 abbrev pub Answers : {X : Type 0} → Result X ReloadFault → Result X ReloadFault → Type 0
 Answers (Ok x) read = read ≡ Ok x
 Answers (Err fault) read = is_memory fault ≡ false → read ≡ Err fault
+
+-- A fault of a document is memory that lacks only where the document is valid: so every other refusal comes before it.
+abbrev pub IsLastOf : PolicyDoc → ReloadFault → Type 0
+IsLastOf doc (Config fault) = Unit {0}
+IsLastOf doc (Policy fault account) = policy.is_memory fault ≡ true → IsValidPolicy doc
+
+-- The same of what a text was read as. Before it is read, memory may lack whatever the text has.
+abbrev pub IsLast : Result PolicyDoc ConfigFault → ReloadFault → Type 0
+IsLast read (Config fault) = Unit {0}
+IsLast read (Policy fault account) = policy.is_memory fault ≡ true → (doc : PolicyDoc) × (read ≡ Ok doc) × IsValidPolicy doc

@@ -1,5 +1,5 @@
+use crate::reload::AccountName;
 use base::NoMemory;
-use bytes::Bytes;
 use itoa::Buffer;
 use policy_doc::PolicyFault;
 use policy_walk::ConfigFault;
@@ -14,7 +14,10 @@ pub enum ReloadFault {
     Config(ConfigFault),
     /// The document is no policy; `account` is the name of the account whose row has the fault. Or there was no
     /// memory for more than reading the text; no account is named then.
-    Policy { fault: PolicyFault, account: Bytes },
+    Policy {
+        fault: PolicyFault,
+        account: AccountName,
+    },
 }
 
 impl ReloadFault {
