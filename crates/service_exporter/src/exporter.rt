@@ -1,5 +1,5 @@
 //! What one exporter has: the last number that it gave, and its routes.
-ghost use Rattle.std.specs.Prelude.{◌≡◌, ◌≤◌, ◌<◌, ◌+◌, ◌-◌, ℕ, [], OnOk, length, nat_lt, vec_len, vec_capacity};
+ghost use Rattle.std.specs.Prelude.{◌≡◌, ◌≤◌, ◌<◌, ◌+◌, ◌-◌, ℕ, [], false, IsOk, OnOk, length, nat_lt, vec_len, vec_capacity};
 ghost use Rattle.std.specs.Option.{option_copied};
 ghost use Rattle.service_exporter.specs.Routes.{if_lives, kept_of, living, pruned_of, route_on, spent_of, with_route};
 ghost use Rattle.service_exporter.specs.Limit.{is_full, IsNext, IsReserved};
@@ -100,10 +100,11 @@ impl Exporter {
         self.tally = Tally::unknown();
     }
 
-    /// Makes room for so many routes more.
+    /// Makes room for so many routes more. It needs no memory where there is room.
     pub fn make_room(&mut self, count: usize) -> Result<(), NoMemory>
         ensures same { self.new.exporter ≡ self.old.exporter }
         ensures ok { OnOk result (count ≤ self.new.room) }
+        ensures enough { count ≤ self.old.room → IsOk result }
         ensures room { self.old.room ≤ self.new.room }
     {
         self.compact_if_sparse();
@@ -112,13 +113,14 @@ impl Exporter {
     }
 
     /// Makes room for so many routes more, at least one, and gives the next number. Nothing else changes. `RouteFull` where
-    /// more than 65,536 would live at this moment, or one would have a number above 2^64 - 1. Else `NoMemory` where memory
-    /// could not be had.
+    /// more than 65,536 would live at this moment, or one would have a number above 2^64 - 1. Else `NoMemory` where there is
+    /// no room and memory could not be had.
     pub fn reserve(&mut self, count: u64, now: u64) -> Result<u64, RouteError>
         requires some { 0 < count }
         ensures same { self.new.exporter ≡ self.old.exporter }
         ensures told { IsReserved (is_full count now self.old.exporter) self.old.exporter.last result }
         ensures ok { OnOk result (count ≤ self.new.room) }
+        ensures enough { count ≤ self.old.room → is_full count now self.old.exporter ≡ false → IsOk result }
         ensures room { self.old.room ≤ self.new.room }
     {
         match self.next_number(count, now) {

@@ -1,5 +1,5 @@
 //! All routes, exporter by exporter.
-ghost use Rattle.std.specs.Prelude.{◌≡◌, ◌≤◌, ◌<◌, ◌+◌, ◌++◌, ◌∷◌, ℕ, List, [], IfOk, OnOk, None, Some, true, false, length, take, if◌then◌else◌};
+ghost use Rattle.std.specs.Prelude.{◌≡◌, ◌≤◌, ◌<◌, ◌+◌, ◌++◌, ◌∷◌, ℕ, List, [], IfOk, IsOk, OnOk, None, Some, true, false, length, take, if◌then◌else◌};
 ghost use Rattle.std.specs.Map.{lookup};
 ghost use Rattle.std.specs.Option.{option_copied};
 ghost use Rattle.indexmap.specs.IndexMap.{spare};
@@ -104,12 +104,13 @@ impl Routes {
 
     /// Makes room for so many routes more of an exporter, at least one, and gives its next number. Nothing else changes.
     /// `RouteFull` where the exporter would have more than 65,536 routes that live at this moment, or one with a number above
-    /// 2^64 - 1. Else `NoMemory` where memory could not be had.
+    /// 2^64 - 1. Else `NoMemory` where there is no room for them and memory could not be had.
     pub fn reserve(&mut self, exporter: &Bytes, count: u64, now: u64) -> Result<u64, RouteError>
         requires { 0 < count }
         ensures same { self.new.exporters ≡ self.old.exporters }
         ensures told { IsReserved (is_full count now (exporter_of exporter.now self.old.exporters)) (exporter_of exporter.now self.old.exporters).last result }
         ensures ok { OnOk result (count ≤ room_for exporter.now self.new) }
+        ensures enough { count ≤ room_for exporter.now self.old → is_full count now (exporter_of exporter.now self.old.exporters) ≡ false → IsOk result }
         ensures room { (other : List ℕ) → room_for other self.old ≤ room_for other self.new }
     {
         match self.exporters.get_mut(exporter) {
@@ -285,6 +286,7 @@ fn reserve_first(
     ensures told { IsReserved (is_full count now no_routes) 0 result }
     ensures within { length ready.new.entries ≤ spare exporters.new }
     ensures ok { OnOk result (count ≤ room_of (lookup (same_name exporter.now) ready.new.entries)) }
+    ensures enough { count ≤ room_of (lookup (same_name exporter.now) ready.old.entries) → is_full count now no_routes ≡ false → IsOk result }
     ensures room { (other : List ℕ) → room_of (lookup (same_name other) ready.old.entries) ≤ room_of (lookup (same_name other) ready.new.entries) }
 {
     match ready.get_mut(exporter) {

@@ -1,5 +1,5 @@
 -- the room of one exporter, which is there or stands ready
-use Rattle.std.proofs.Common.{◌≡◌, ◌∙◌, ◌≤◌, ◌++◌, List, None, Some, OnOk, ap, sym, subst, refl, unwrap_or}
+use Rattle.std.proofs.Common.{◌≡◌, ◌∙◌, ◌≤◌, ◌++◌, List, None, Some, OnOk, false, ap, sym, subst, refl, unwrap_or}
 use Rattle.std.specs.Map.{lookup}
 use Rattle.service_exporter.specs.Limit.{is_full, IsReserved}
 use Rattle.service_exporter.specs.Routes.{Exporter, WithRoom, no_routes}
@@ -47,6 +47,26 @@ returns-in-Some-clause-room c = λ other.
     (shown-kept all ready new ready
     (λ o. subst (λ (es : List (Name × WithRoom)). room_in o all ready ≤ room_in o es ready) (sym written.0) (room-kept name o all ready c.in-Some.part.now c.reserve.new.self (sym c.in-Some.ensures.value) c.reserve.ensures.room))
     other)
+
+pub returns-in-Some-clause-enough : goal.returns-in-Some-clause-enough
+returns-in-Some-clause-enough c = λ few fits.
+    let name = c.args.exporter.now in
+    let all = c.self.inside.exporters.entries in
+    let room = ap (λ (t : Table). room_for name t) (sym c.self.view_is) ∙ room-there name all c.self.inside.ready.entries c.in-Some.part.now (sym c.in-Some.ensures.value) in
+    let it : exporter_of name c.args.self.now.exporters ≡ c.in-Some.part.now.exporter =
+    ap (λ (t : Table). exporter_of name t.exporters) (sym c.self.view_is) ∙ exporter-there name all c.in-Some.part.now (sym c.in-Some.ensures.value)
+    in
+    c.reserve.ensures.enough (subst (λ n. c.args.count ≤ n) room few) (subst (λ (e : Exporter). is_full c.args.count c.args.now e ≡ false) it fits)
+
+pub returns-in-None-clause-enough : goal.returns-in-None-clause-enough
+returns-in-None-clause-enough c = λ few fits.
+    let name = c.args.exporter.now in
+    let all = c.self.inside.exporters.entries in
+    let room = ap (λ (t : Table). room_for name t) (sym c.self.view_is) ∙ room-first name all c.self.inside.ready.entries (sym c.in-None.ensures.value) in
+    let none : exporter_of name c.args.self.now.exporters ≡ no_routes =
+    ap (λ (t : Table). exporter_of name t.exporters) (sym c.self.view_is) ∙ exporter-absent name all (sym c.in-None.ensures.value)
+    in
+    c.reserve_first.ensures.enough (subst (λ n. c.args.count ≤ n) room few) (subst (λ (e : Exporter). is_full c.args.count c.args.now e ≡ false) none fits)
 
 pub returns-in-None-clause-told : goal.returns-in-None-clause-told
 returns-in-None-clause-told c =
