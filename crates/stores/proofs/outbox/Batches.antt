@@ -1,5 +1,5 @@
 -- A batch before a ring.
-use Rattle.std.proofs.Common.{◌≡◌, ◌∙◌, ℕ, zero, suc, ◌+◌, ◌-◌, ◌<◌, ◌≤◌, List, [], ◌∷◌, ◌++◌, take, drop, length, min, ap, sym, arith, refl}
+use Rattle.std.proofs.Common.{◌≡◌, ◌∙◌, ℕ, zero, suc, ◌+◌, ◌-◌, ◌<◌, ◌≤◌, List, [], ◌∷◌, ◌++◌, take, drop, length, min, ap, sym, arith, refl, append-nil}
 use Rattle.std.proofs.Math.Seq.{drop-append-add}
 use Rattle.std.proofs.lemmas.List.{length-append, drop-append-le, take-append-drop}
 
@@ -49,3 +49,11 @@ whole_batch (x ∷ b) r (suc n) e = ap (λ t. x ∷ t) (whole_batch b r n (omega
 -- what was moved into a batch stands before the others as it did
 pub moved : {X : Type 0} (r : List X) (n : ℕ) → take n r ++ drop n r ≡ r
 moved r n = take-append-drop n r
+
+take_whole : {X : Type 0} (w : List X) → take (length w) w ≡ w
+take_whole [] = refl
+take_whole (x ∷ w) = ap (λ t. x ∷ t) (take_whole w)
+
+-- a copy of all, before a ring with none
+pub whole_copied : {X : Type 0} (w : List X) → take (length w) w ++ [] ≡ w
+whole_copied w = append-nil (take (length w) w) ∙ take_whole w

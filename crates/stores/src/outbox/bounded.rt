@@ -152,6 +152,20 @@ impl<T: Copying + Drop> Outbox<T> {
         Ok(copies)
     }
 
+    /// Returns a copy with as much room, and with memory of its own. `NoMemory` where it could not be had.
+    #[tactic(auto, using(crate::proofs::outbox::Batches::whole_copied))]
+    pub fn copy(&self, alloc: Global) -> Result<Outbox<T>, NoMemory>
+        ensures { IfOk result (λ copy. copy ≡ self.now) }
+    {
+        let items = self.front(self.len())?;
+        let ring = HeapCircularBuffer::with_capacity(alloc, self.ring.capacity())?;
+        let batch = Batch::from_vec(alloc, items)?;
+        Ok(Outbox {
+            batch: Some(batch),
+            ring,
+        })
+    }
+
     /// Returns the next elements, `most` at most, oldest first, to be owned by others too. They stay, and none is
     /// copied where they are asked for before others are let go. `NoMemory` where memory could not be had.
     #[tactic(auto, using(crate::proofs::outbox::Batches::whole_batch, crate::proofs::outbox::Batches::moved))]
