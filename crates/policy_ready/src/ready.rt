@@ -109,8 +109,8 @@ impl Model for Ready {
 
 impl Ready {
     ghost use Rattle.std.specs.Prelude.{◌≡◌, Some, IfOk, IfErr};
-    ghost use Rattle.std.specs.Option.{option_copied};
-    ghost use Rattle.policy_ready.specs.Users.{users_of, user_with_password, user_again};
+    ghost use Rattle.std.specs.Option.{option_copied, option_map};
+    ghost use Rattle.policy_ready.specs.Users.{users_of, user_named, user_with_password, user_again};
     ghost use Rattle.policy_ready.specs.imports.Views.{rows_of};
 
     /// The policy, made ready. Where memory could not be had, the policy is handed back.
@@ -161,6 +161,16 @@ impl Ready {
         &self.shared.rows
     }
 
+    /// The compiled permissions of the user with that name, if there is one.
+    pub fn compiled(&self, user: &[u8]) -> Option<&Compiled>
+        ensures { option_copied result ≡ option_map (λ found. found.rules) (user_named self.now user.now) }
+    {
+        match find_user(self.shared.users.as_slice(), user) {
+            None => None,
+            Some(found) => Some(&found.rules),
+        }
+    }
+
     /// The user with that name and password, if there is one. Without a name there is none.
     pub fn user_with_password(
         &self,
@@ -208,7 +218,9 @@ impl Alike for Ready {
     }
 }
 
-ghost use Rattle.std.specs.Prelude.{◌<◌, IfErr, IfSome, true, length};
+ghost use Rattle.std.specs.Prelude.{◌<◌, IfErr, IfSome, true, length, nat_eq, find};
+ghost use Rattle.std.specs.Cmp.Lexicographic.{pointwise};
+ghost use Rattle.policy_ready.specs.declared.ready.User.{User};
 ghost use Rattle.std.specs.List.{HoldsAt};
 ghost use Rattle.std.specs.Option.{option_copied};
 ghost use Rattle.permissions.specs.Lists.{lists_of, lists_with};
@@ -226,6 +238,13 @@ fn share(alloc: Global, parts: Parts) -> Result<Ready, (Policy, NoMemory)>
         Ok(shared) => Ok(Ready { shared }),
         Err(refused) => Err((refused.value.policy, NoMemory)),
     }
+}
+
+/// The user with that name, if there is one.
+fn find_user<'a>(users: &'a [User], name: &[u8]) -> Option<&'a User>
+    ensures { option_copied result ≡ find (λ (u : User). pointwise nat_eq u.user name.now) users.now }
+{
+    users.iter().find(|known| known.user.as_slice() == name)
 }
 
 /// Whether two users have the same name, password and account.
