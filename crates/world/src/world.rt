@@ -5,6 +5,7 @@ use crate::decide::SESSIONS;
 use crate::reload::is_valid;
 use base::{Copying, Items, NoMemory, Shared};
 use events::{Answer, Command, Entry, Event, HubRefusal, Outcome, PublishRefusal};
+use policy_doc::Policy;
 use policy_ready::Ready;
 use service_routes::Routes;
 use std::alloc::Global;
@@ -298,6 +299,13 @@ impl World {
         ensures { result.now ≡ self.now.policy }
     {
         &self.ready
+    }
+
+    /// Returns the policy in force.
+    pub fn policy(&self) -> &Policy
+        ensures { result.now ≡ self.now.policy }
+    {
+        self.ready.policy()
     }
 
     /// Returns the epoch in force: which policy it is, counted from 1.
