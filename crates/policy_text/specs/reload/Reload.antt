@@ -2,7 +2,6 @@
 use Rattle.std.specs.Prelude.{◌≡◌, ℕ, List, [], true, false, Option, Some, None, Result, Ok, Err}
 use Rattle.std.specs.Option.{option_map_or}
 use Rattle.policy_doc.specs.Document.{name_at, policy_fault, IsValidPolicy}
-use Rattle.policy_doc.specs.declared.document.NamedAccount.{NamedAccount}
 use Rattle.policy_doc.specs.declared.document.PolicyDoc.{PolicyDoc}
 use Rattle.policy_doc.specs.declared.fault.PolicyFault.{PolicyFault}
 use Rattle.policy_doc.specs.Faults as policy
@@ -14,10 +13,10 @@ use Rattle.policy_text.specs.reload.Fault.{is_memory}
 use Rattle.policy_text.specs.declared.reload.fault.ReloadFault.{ReloadFault}
 use Rattle.policy_text.specs.declared.reload.fault.ReloadFault.TheVariants.{Config, Policy}
 
--- the name of the account at a place of accounts, if there are some
-abbrev pub name_in : Option (List NamedAccount) → ℕ → List ℕ
+-- the name of the account at a place of a document, if there is one
+abbrev pub name_in : Option PolicyDoc → ℕ → List ℕ
 name_in None place = []
-name_in (Some accounts) place = name_at accounts place
+name_in (Some doc) place = name_at doc.accounts place
 
 -- the account whose row has a fault
 abbrev pub account_in : PolicyDoc → PolicyFault → List ℕ

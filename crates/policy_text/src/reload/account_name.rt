@@ -1,21 +1,18 @@
 //! The name of an account that has a fault.
-use policy_doc::{Accounts, PolicyDoc};
+use policy_doc::PolicyDoc;
 use std::marker::Model;
 
-/// The name of the account whose row has a fault, or no bytes where no row has it. It keeps the accounts of the document, so that
-/// it takes no memory. A clause sees the name.
+/// The name of the account whose row has a fault, or no bytes where no row has it. It keeps the document, so that it
+/// takes no memory. A clause sees the name.
 #[derive(Debug)]
 pub struct AccountName {
-    accounts: Option<Accounts>,
+    doc: Option<PolicyDoc>,
     place: usize,
 }
 
 impl Drop for AccountName {
     fn drop(self) {
-        let Self {
-            accounts: _,
-            place: _,
-        } = self;
+        let Self { doc: _, place: _ } = self;
     }
 }
 
@@ -25,7 +22,7 @@ impl Model for AccountName {
 
     ghost Value = { List ℕ };
 
-    ghost view = { λ name. name_in name.accounts name.place };
+    ghost view = { λ name. name_in name.doc name.place };
 }
 
 impl AccountName {
@@ -37,7 +34,7 @@ impl AccountName {
         ensures { result ≡ [] }
     {
         AccountName {
-            accounts: None,
+            doc: None,
             place: 0,
         }
     }
@@ -46,13 +43,8 @@ impl AccountName {
     pub(crate) fn at(doc: PolicyDoc, place: usize) -> AccountName
         ensures { result ≡ name_at doc.accounts place }
     {
-        let PolicyDoc {
-            accounts,
-            version: _,
-            default_permissions: _,
-        } = doc;
         AccountName {
-            accounts: Some(accounts),
+            doc: Some(doc),
             place,
         }
     }
@@ -61,9 +53,9 @@ impl AccountName {
     pub fn as_slice(&self) -> &[u8]
         ensures { result.now ≡ self.now }
     {
-        match &self.accounts {
+        match &self.doc {
             None => &[],
-            Some(accounts) => match accounts.as_slice().get(self.place) {
+            Some(doc) => match doc.accounts.as_slice().get(self.place) {
                 None => &[],
                 Some(named) => named.name.as_slice(),
             },
