@@ -13,11 +13,6 @@ use Rattle.policy_text.specs.reload.Fault.{is_memory}
 use Rattle.policy_text.specs.declared.reload.fault.ReloadFault.{ReloadFault}
 use Rattle.policy_text.specs.declared.reload.fault.ReloadFault.TheVariants.{Config, Policy}
 
--- the name of the account at a place of a document, if there is one
-abbrev pub name_in : Option PolicyDoc → ℕ → List ℕ
-name_in None place = []
-name_in (Some doc) place = name_at doc.accounts place
-
 -- the account whose row has a fault
 abbrev pub account_in : PolicyDoc → PolicyFault → List ℕ
 account_in doc fault = option_map_or (λ (place : Place). name_at doc.accounts place.account) (fault_place fault) []

@@ -18,7 +18,7 @@ impl Drop for AccountName {
 
 impl Model for AccountName {
     ghost use Rattle.std.specs.Prelude.{List, ℕ};
-    ghost use Rattle.policy_text.specs.reload.Reload.{name_in};
+    ghost use Rattle.policy_text.specs.reload.Named.{name_in};
 
     ghost Value = { List ℕ };
 
