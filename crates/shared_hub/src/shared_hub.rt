@@ -49,7 +49,7 @@ pub(crate) struct Rest<L: Run> {
 
 impl<L: Run> SharedHub<L> {
     ghost use Rattle.std.specs.Prelude.{◌≡◌, ◌+◌, ◌<◌, ◌≤◌, ◌++◌, IfOk, IfErr, All, List, MatchResult, vec_len, map};
-    ghost use Rattle.shared_hub.specs.Entering.{IsSubmitted, IsAnswered, IsOfferedBy, IsLonger};
+    ghost use Rattle.shared_hub.specs.Entering.{IsSubmitted, IsAnswered, IsOfferedBy, IsLonger, IsToldOfStep, IsToldOfOffer, telling};
     ghost use Rattle.shared_waits.specs.runs.Runs.{IsRun, StaysBelow};
     ghost use Rattle.events.specs.declared.answer.Entry.{Entry};
     ghost use Rattle.shared_hub.specs.Audits.{IsWhole, IsDue};
@@ -179,6 +179,7 @@ impl<L: Run> SharedHub<L> {
         ensures answered { IsAnswered L.opening seat.old.count event result seat.new.count }
         ensures rotations { seat.new.rotations ≡ seat.old.rotations }
         ensures freed { IsLonger told.old.freed.items told.new.freed.items }
+        ensures told { IsToldOfStep refused event result told.old told.new }
     {
         self.desk.lock(rt).step(seat, event, refused, told)
     }
@@ -193,6 +194,7 @@ impl<L: Run> SharedHub<L> {
         told: &mut Told,
     ) -> Result<Answer, (Event, PublishRefusal)>
         ensures offered { IsOfferedBy L.opening seat.old.count event result seat.new.count }
+        ensures told { IsToldOfOffer L.opening seat.old.count event result seat.new.count told.new }
         ensures rotations { seat.new.rotations ≡ seat.old.rotations }
         ensures err { IfErr result (λ refused. refused.0 ≡ event) }
         ensures freed { told.new.freed.items ≡ told.old.freed.items }
@@ -211,6 +213,7 @@ impl<L: Run> SharedHub<L> {
         words: &mut W,
     ) -> Option<Result<Answer, (Event, PublishRefusal)>>
         ensures run { (answers : List Entry) × (context.new.hold.answers.items ≡ context.old.hold.answers.items ++ answers) × IsRun (λ s e r after. IsOfferedBy L.opening s.count e r after.count) W.draws context.old.posts.conn context.old.posts.now messages.old.items seat.old words.old answers result messages.new.items seat.new words.new }
+        ensures told { (answers : List Entry) × (context.new.hold.answers.items ≡ context.old.hold.answers.items ++ answers) × IsRun (λ x e r y. IsToldOfOffer L.opening x.count e r y.count y.told) W.draws context.old.posts.conn context.old.posts.now messages.old.items (telling seat.old.count context.old.told) words.old answers result messages.new.items (telling seat.new.count context.new.told) words.new }
         ensures rotations { seat.new.rotations ≡ seat.old.rotations }
         ensures below { StaysBelow context.old.hold.most context.old.hold.answers.items context.new.hold.answers.items }
         ensures freed { context.new.told.freed.items ≡ context.old.told.freed.items }

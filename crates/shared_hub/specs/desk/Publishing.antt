@@ -7,6 +7,7 @@ use Rattle.hub.specs.History.{State}
 use Rattle.hub.specs.Holding.{IsStepIf}
 use Rattle.hub.specs.Guarantee.{KeepsGuarantee}
 use Rattle.shared_waits.specs.Waiting.{Waiting}
+use Rattle.shared_hub.specs.desk.Entering.{IsHub}
 use Rattle.shared_hub.specs.desk.Bounds.{terms_at, size_of}
 use Rattle.shared_hub.specs.desk.Waits.{waiting_in, IsOfferedTo, until_of, slow_of}
 use Rattle.shared_hub.specs.declared.desk.told.Told.{Told}
@@ -23,9 +24,10 @@ pub record Inside (S : Type 0) : Type 0 where
 abbrev pub inside : {S : Type 0} → State → Waiting → List ℕ → S → Told → Inside S
 inside hub waits held seat told = record { hub = hub; waits = waits; held = held; seat = seat; told = told }
 
--- What `Desk::step_if` tells of an event: it is one step of the hub, which keeps the guarantee, or it is held back. With an
+-- What `Desk::step_if` tells of an event: it is one step of a hub, which keeps the guarantee, or it is held back. With an
 -- answer the seat has one more, and since the ledger was opened at least as many entries were made as the seat has.
 pub record IsPublished {S : Type 0} (count : S → ℕ) (opening : ℕ) (x : Inside S) (e : Event) (r : Came) (y : Inside S) : Type 0 where
+  pub hub : IsHub x.hub
   pub step : IsStepIf (terms_at x.waits x.hub e) x.hub e r y.held y.hub
   pub guarantee : IsOffered KeepsGuarantee (λ before after. after ≡ before) x.hub e r y.hub
   pub counted : MatchResult r (λ _. count y.seat ≡ count x.seat + 1) (λ _. count y.seat ≡ count x.seat)

@@ -91,7 +91,7 @@ impl<L: Run> Desk<L> {
     ghost use Rattle.hub.specs.Segments.{rotated, tail_of};
     ghost use Rattle.hub.specs.Sound.{IsSound};
     ghost use Rattle.hub.specs.Guarantee.{IsRouted, KeepsGuarantee};
-    ghost use Rattle.shared_hub.specs.desk.Entering.{IsEntered};
+    ghost use Rattle.shared_hub.specs.desk.Entering.{IsHub, IsEntered};
     ghost use Rattle.std.specs.Prelude.{Some, None};
     ghost use Rattle.events.specs.Offers.{IsOffered};
     ghost use Rattle.hub.specs.Holding.{IsStepIf};
@@ -137,6 +137,7 @@ impl<L: Run> Desk<L> {
     /// every hub keeps, what it holds of its history is legal, and the book counts the entries since the run opened. As long
     /// as it counts none, the hub's world is that with which the run opened.
     pub fn use_invariant(&self)
+        ensures hub { IsHub self.now.hub }
         ensures sound { IsSound self.now.hub.world }
         ensures legal { IsLegalRun self.now.hub.opening self.now.hub.entries self.now.hub.world }
         ensures counted { self.now.hub.world.number ≡ L.opening + self.now.book.total }
@@ -245,6 +246,7 @@ impl<L: Run> Desk<L> {
         seat: &mut Seat<L>,
         event: Event,
     ) -> Result<Receipt, (Event, HubRefusal)>
+        ensures hub { IsHub self.old.hub }
         ensures entered { IsEntered self.old.hub event result self.new.hub }
         ensures entries { IfOk result (λ r. self.new.hub.entries ≡ self.old.hub.entries ++ r.entry ∷ []) }
         ensures guarantee { IfOk result (λ r. IsRouted self.old.hub event r.entry self.new.hub) }
@@ -253,6 +255,7 @@ impl<L: Run> Desk<L> {
         ensures number { IfOk result (λ r. L.opening + seat.new.count ≤ r.entry.number) }
         ensures waits { self.new.waits ≡ self.old.waits }
     {
+        self.use_invariant();
         let ready = match ready_after(self.alloc, &self.hub, &event) {
             Ok(ready) => ready,
             Err(_) => return Err((event, HubRefusal::NoMemory)),
@@ -299,6 +302,7 @@ impl<L: Run> Desk<L> {
         refused: u64,
         told: &mut Told,
     ) -> Result<Answer, (Event, HubRefusal)>
+        ensures hub { IsHub self.old.hub }
         ensures step { IsStep self.old.hub event result self.new.hub }
         ensures guarantee { KeepsGuarantee self.old.hub event result self.new.hub }
         ensures count { MatchResult result (λ _. seat.new.count ≡ seat.old.count + 1) (λ _. seat.new.count ≡ seat.old.count) }
@@ -311,9 +315,9 @@ impl<L: Run> Desk<L> {
         ensures same { OnErr result (self.new.waits ≡ self.old.waits) }
         ensures none { OnErr result (told.new.freed.items ≡ told.old.freed.items) }
     {
+        self.use_invariant();
         if told.freed.reserve(self.waits.len()).is_err() {
             let refusal = self.hub.refusal(&event);
-            self.hub.use_invariant();
             return Err((event, refusal));
         }
         let answer = match self.step_counted(seat, event) {
@@ -370,6 +374,7 @@ impl<L: Run> Desk<L> {
         event: Event,
         told: &mut Told,
     ) -> Result<Answer, (Event, PublishRefusal)>
+        ensures hub { IsHub self.old.hub }
         ensures step { IsStepIf (terms_at self.old.waits self.old.hub event) self.old.hub event result self.new.held.items self.new.hub }
         ensures guarantee { IsOffered KeepsGuarantee (λ s after. after ≡ s) self.old.hub event result self.new.hub }
         ensures count { MatchResult result (λ _. seat.new.count ≡ seat.old.count + 1) (λ _. seat.new.count ≡ seat.old.count) }
@@ -382,6 +387,7 @@ impl<L: Run> Desk<L> {
         ensures freed { told.new.freed.items ≡ told.old.freed.items }
         ensures rest { told.new.rest ≡ told.old.rest }
     {
+        self.use_invariant();
         self.take_out(&event.what);
         told.until = None;
         told.slow = None;

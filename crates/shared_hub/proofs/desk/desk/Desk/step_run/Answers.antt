@@ -20,7 +20,7 @@ returns-in-Err-clause-run g c =
       run_ended (IsPublished (λ s. s.count) g.L.Run.opening) g.W.Words.draws c.args.context.now.posts.conn c.args.context.now.posts.now c.args.messages.now.items
           (inside c.args.self.now.hub c.args.self.now.waits c.args.self.now.held.items c.args.seat.now c.args.context.now.told) c.args.words.now past.0 c.loop-message.messages.items c.in-Some.message c.pop_front.new.self.items
           (inside c.loop-message.self.hub c.loop-message.self.waits c.loop-message.self.held.items c.loop-message.seat c.loop-message.context.told) c.loop-message.words c.next.result c.next.new.self c.event-event.result (Err c.in-Err.refused) (inside c.step_if.new.self.hub c.step_if.new.self.waits c.step_if.new.self.held.items c.step_if.new.seat c.step_if.new.told)
-          c.in-Some.ensures.items c.event-event.ensures past.2 c.next.ensures (record { step = c.in-Err.ensures.step; guarantee = c.in-Err.ensures.guarantee; counted = c.in-Err.ensures.count; number = tt; waits = c.in-Err.ensures.waits; until = c.in-Err.ensures.until; slow = c.in-Err.ensures.slow; size = c.in-Err.ensures.size }) (handed_back (terms_at c.loop-message.self.waits c.loop-message.self.hub c.event-event.result) c.loop-message.self.hub c.event-event.result c.in-Err.refused c.step_if.new.self.held.items c.step_if.new.self.hub c.in-Err.ensures.step),
+          c.in-Some.ensures.items c.event-event.ensures past.2 c.next.ensures (record { hub = c.in-Err.ensures.hub; step = c.in-Err.ensures.step; guarantee = c.in-Err.ensures.guarantee; counted = c.in-Err.ensures.count; number = tt; waits = c.in-Err.ensures.waits; until = c.in-Err.ensures.until; slow = c.in-Err.ensures.slow; size = c.in-Err.ensures.size }) (handed_back (terms_at c.loop-message.self.waits c.loop-message.self.hub c.event-event.result) c.loop-message.self.hub c.event-event.result c.in-Err.refused c.step_if.new.self.held.items c.step_if.new.self.hub c.in-Err.ensures.step),
     )
 
 pub returns-in-Some-keep-clause-run : goal.returns-in-Some-keep-clause-run
@@ -35,7 +35,7 @@ returns-in-Some-keep-clause-run g c =
           (run_ended (IsPublished (λ s. s.count) g.L.Run.opening) g.W.Words.draws c.args.context.now.posts.conn c.args.context.now.posts.now c.args.messages.now.items
           (inside c.args.self.now.hub c.args.self.now.waits c.args.self.now.held.items c.args.seat.now c.args.context.now.told) c.args.words.now past.0 c.loop-message.messages.items c.in-Some.message c.pop_front.new.self.items
           (inside c.loop-message.self.hub c.loop-message.self.waits c.loop-message.self.held.items c.loop-message.seat c.loop-message.context.told) c.loop-message.words c.next.result c.next.new.self c.event-event.result (Ok c.in-Ok.answer) (inside c.step_if.new.self.hub c.step_if.new.self.waits c.step_if.new.self.held.items c.step_if.new.seat c.step_if.new.told)
-          c.in-Some.ensures.items c.event-event.ensures past.2 c.next.ensures (record { step = c.in-Ok.ensures.step; guarantee = c.in-Ok.ensures.guarantee; counted = c.in-Ok.ensures.count; number = c.in-Ok.ensures.number; waits = c.in-Ok.ensures.waits; until = c.in-Ok.ensures.until; slow = c.in-Ok.ensures.slow; size = c.in-Ok.ensures.size }) tt),
+          c.in-Some.ensures.items c.event-event.ensures past.2 c.next.ensures (record { hub = c.in-Ok.ensures.hub; step = c.in-Ok.ensures.step; guarantee = c.in-Ok.ensures.guarantee; counted = c.in-Ok.ensures.count; number = c.in-Ok.ensures.number; waits = c.in-Ok.ensures.waits; until = c.in-Ok.ensures.until; slow = c.in-Ok.ensures.slow; size = c.in-Ok.ensures.size }) tt),
     )
 
 pub returns-in-Some-keep-clause-below : goal.returns-in-Some-keep-clause-below
@@ -59,7 +59,7 @@ loop-message-preserved g c =
         run_more (IsPublished (λ s. s.count) g.L.Run.opening) g.W.Words.draws c.args.context.now.posts.conn c.args.context.now.posts.now c.args.messages.now.items
             (inside c.args.self.now.hub c.args.self.now.waits c.args.self.now.held.items c.args.seat.now c.args.context.now.told) c.args.words.now past.0 c.loop-message.messages.items c.in-Some.message c.pop_front.new.self.items
             (inside c.loop-message.self.hub c.loop-message.self.waits c.loop-message.self.held.items c.loop-message.seat c.loop-message.context.told) c.loop-message.words c.next.result c.next.new.self c.event-event.result c.in-Ok.answer (inside c.step_if.new.self.hub c.step_if.new.self.waits c.step_if.new.self.held.items c.step_if.new.seat c.step_if.new.told)
-            c.in-Some.ensures.items c.event-event.ensures past.2 c.next.ensures (record { step = c.in-Ok.ensures.step; guarantee = c.in-Ok.ensures.guarantee; counted = c.in-Ok.ensures.count; number = c.in-Ok.ensures.number; waits = c.in-Ok.ensures.waits; until = c.in-Ok.ensures.until; slow = c.in-Ok.ensures.slow; size = c.in-Ok.ensures.size }) kept.0,
+            c.in-Some.ensures.items c.event-event.ensures past.2 c.next.ensures (record { hub = c.in-Ok.ensures.hub; step = c.in-Ok.ensures.step; guarantee = c.in-Ok.ensures.guarantee; counted = c.in-Ok.ensures.count; number = c.in-Ok.ensures.number; waits = c.in-Ok.ensures.waits; until = c.in-Ok.ensures.until; slow = c.in-Ok.ensures.slow; size = c.in-Ok.ensures.size }) kept.0,
       );
     }
 
