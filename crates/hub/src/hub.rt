@@ -24,7 +24,7 @@ pub struct Caps {
 
 /// The world, and the history of its steps since its opening or last rotation. A clause sees the world, the one before
 /// the entries, and the entries. Of every hub it holds that the policy in force refuses no standing subscription, that
-/// the entries are a legal run, and what else `known` tells.
+/// the entries are a legal run, and what else `use_invariant` tells.
 ///
 /// ```
 /// let mut hub = Hub::new(alloc, ready, caps, keys).ok()?;
@@ -235,11 +235,12 @@ impl Hub {
     /// the list of answers, the events are handed back before the first step.
     ///
     /// The routing guarantee (docs/GUARANTEE.md, "The guarantee"): for every list of events, a command that is not
-    /// refused is accepted exactly when the policy in force at its step allows it; a message enters a plain
-    /// subscription's outbox exactly when account, echo and permissions admit it there and there is room, and is
-    /// reported Full where it is admitted and there is none; of each queue group with an admitted member exactly one
-    /// is chosen; each denial names its deciding rule or the missing allow; no standing subscription is denied by
-    /// the policy in force.
+    /// refused is accepted exactly when the policy in force at its step allows it. A message goes on under the subject
+    /// that its account's mappings give it, and is seen in its publisher's account, across each import, and as a response
+    /// in the account that asked. In each of these it enters a plain subscription's outbox exactly when account, echo,
+    /// permissions and limit admit it there and there is room, and is reported Full where it is admitted and there is
+    /// none; of each queue group with an admitted member exactly one is chosen. Each denial names its deciding rule or the
+    /// missing allow. The policy in force denies no standing subscription.
     pub fn run(
         &mut self,
         events: Vec<Event>,
