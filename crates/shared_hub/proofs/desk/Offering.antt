@@ -5,10 +5,14 @@ use Rattle.events.specs.declared.event.Command.{Command}
 use Rattle.events.specs.declared.answer.Entry.{Entry}
 use Rattle.events.specs.declared.refusal.PublishRefusal.{PublishRefusal}
 use Rattle.events.specs.declared.refusal.PublishRefusal.TheVariants.{By, Held}
+use Rattle.events.specs.Offers.{IsOffered}
 use Rattle.world_sessions.specs.leniency.Held.{Terms}
 use Rattle.world.specs.Transition.{IsRefusal}
 use Rattle.hub.specs.History.{State, stepped}
 use Rattle.hub.specs.Holding.{IsStepIf}
+use Rattle.hub.specs.Sound.{IsSound}
+use Rattle.hub.specs.Guarantee.{KeepsGuarantee}
+use Rattle.hub.proofs.Guaranteed.{guaranteed}
 use Rattle.shared_waits.specs.Waiting.{Waiting, is_out_with}
 use Rattle.shared_hub.specs.desk.Bounds.{size_of, room_beside, terms_at}
 use Rattle.shared_hub.specs.desk.Waits.{offered, IfBy}
@@ -34,6 +38,12 @@ held_step t s after new e back held list (By r) h hub same due =
 held_step t s after new e back held list Held h hub same due =
     let N : List ℕ → Type 0 = λ l. l ≢ [] in
     (h.0, hub ∙ h.1, h.2, subst N (sym same) h.3, same ∙ h.4)
+
+-- it keeps the guarantee
+pub held_guaranteed : (t : Terms) (s new : State) (e back : Event) (list : List ℕ) (q : PublishRefusal) → IsSound s.world → IsStepIf t s e (Err (back, q)) list new
+    → IsOffered KeepsGuarantee (λ (a b : State). b ≡ a) s e (Err (back, q)) new
+held_guaranteed t s new e back list (By r) sound h = guaranteed s e (Err (back, r)) new sound h tt
+held_guaranteed t s new e back list Held sound h = h.1
 
 -- a message that isn't entered is handed back
 pub handed_back : (t : Terms) (s : State) (e : Event) (refused : Event × PublishRefusal) (held : List ℕ) (after : State) → IsStepIf t s e (Err refused) held after → refused.0 ≡ e
