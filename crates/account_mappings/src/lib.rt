@@ -1,8 +1,5 @@
-//! The mappings of an account: under which subject a message is sent on, drawn by weights. It draws nothing itself, and knows
-//! no policy.
-//!
-//! `mapped_by` is asked once a message. An account without mappings pays nothing, and nothing is allocated but the mapped subject.
-//! Who keeps mapped subjects asks by parts: `source_of`, `AccountMap::chosen`, `Destination::reached`.
+//! The mappings of an account: under which subject a message is sent on, chosen by weights and a word that the caller draws.
+//! It knows no policy.
 #![tactic(auto)]
 
 mod account_map;

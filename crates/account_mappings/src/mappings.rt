@@ -6,6 +6,9 @@ use std::marker::Model;
 use subjects::SubjectRef;
 
 /// The mappings of an account, which its users share. A clause sees them in the order of their sources' bytes.
+///
+/// An account without mappings pays nothing for a message, and nothing is allocated but the mapped subject. Who keeps mapped
+/// subjects asks by parts: `source_of`, `AccountMap::chosen`, `Destination::reached`.
 #[derive(Debug)]
 pub struct Mappings {
     /// None where there are no mappings, as in most accounts.

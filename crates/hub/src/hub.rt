@@ -1,9 +1,10 @@
 //! The hub: a world, and the history of its steps.
 use crate::Segment;
 use base::{Copying, Items, NoMemory, Shared};
-use events::{Answer, Event, HubRefusal, PublishRefusal};
+use events::{Answer, Event, HubRefusal, Message, PublishRefusal};
 use policy_doc::Policy;
 use policy_ready::Ready;
+use reply_grants::GrantEnd;
 use std::alloc::Global;
 use std::collections::VecDeque;
 use std::hash::RandomState;
@@ -229,7 +230,7 @@ impl Hub {
 
     ghost use Rattle.std.specs.Prelude.{[], map, vec_capacity};
     ghost use Rattle.hub.specs.Run.{IsRun};
-    ghost use Rattle.world.specs.Shown.{standing_of, waiting_of};
+    ghost use Rattle.world.specs.Shown.{standing_of, subscribed_of, waiting_of};
 
     /// Makes the steps of the events in order, and returns the answer or the refusal of each. If there is no memory for
     /// the list of answers, the events are handed back before the first step.
@@ -347,6 +348,19 @@ impl Hub {
         ensures { result ≡ waiting_of self.now.world conn }
     {
         self.world.waiting(conn)
+    }
+
+    /// Why the grant that a connection's session has, or had, for a message's subject allows it no more, where that is
+    /// known.
+    pub fn grant_end(&self, conn: u64, message: &Message) -> Option<GrantEnd> {
+        self.world.grant_end(conn, message)
+    }
+
+    /// How many subscriptions the connection has.
+    pub fn subscribed(&self, conn: u64) -> usize
+        ensures { result ≡ subscribed_of self.now.world conn }
+    {
+        self.world.subscribed(conn)
     }
 
     /// How many deliveries may wait for a session.

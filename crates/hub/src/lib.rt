@@ -1,5 +1,5 @@
-//! The hub: the world with its history, one step, runs of steps, and whether parts that were handed out are one history. Its
-//! contract is the routing guarantee. It knows no thread, no clock and no connection's bytes.
+//! The hub: the world with its history, one step and runs of steps under the routing guarantee, and whether parts that were
+//! handed out are one history. It knows no thread, no clock and no connection's bytes.
 #![tactic(auto)]
 
 mod hub;

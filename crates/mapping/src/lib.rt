@@ -1,8 +1,5 @@
-//! Subjects of one account under the names that another has for them, and subjects sent on under others. It knows no account:
-//! who asks says which mapping.
-//!
-//! A mapping is made once, for an import row; `forward` and `back` are asked once a message. Each walks the subject and
-//! both patterns once or twice, and takes one block for the tokens of `*`s, where there are any, and one for the text.
+//! Subjects of one account under the names that another has for them, and subjects sent on under others. It knows no
+//! account: who asks says which mapping.
 #![tactic(auto)]
 
 mod error;

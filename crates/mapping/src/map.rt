@@ -16,6 +16,9 @@ use subjects::{Pattern, Subject, SubjectRef};
 /// How the subjects of an exporting account and those of an importing one are paired: one to one, each wildcard of the
 /// pattern with the same token on both sides, and its `>` with the same tokens (docs/GUARANTEE.md, "Mappings"). A clause
 /// sees the two patterns, and which wildcards belong together.
+///
+/// It is made once, for an import row; `forward` and `back` are asked once a message. Each walks the subject and both patterns
+/// once or twice, and takes one block for the tokens of `*`s, where there are any, and one for the text.
 pub struct Mapping {
     outer: Side,
     local: Side,

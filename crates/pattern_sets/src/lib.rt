@@ -1,8 +1,5 @@
-//! Sets of subjects that patterns name, and the few samples that tell two such sets apart. It knows no permission and no policy.
-//!
-//! A pattern names at each place one token or every token, and there are always tokens that no pattern of a list names. So where
-//! some subject is in one set and not in another, one of a few *samples* is: what two patterns have in common, with such a token
-//! in the place of each `*`. A search asks these, and no other.
+//! Sets of subjects that patterns name, and the few samples that tell two such sets apart. It knows no permission and no
+//! policy.
 #![tactic(auto)]
 
 mod cover;

@@ -1,4 +1,8 @@
 //! The search for a question on which two judges differ.
+//!
+//! A pattern names at each place one token or every token, and there are always tokens that no pattern of a list names. So where
+//! some subject is in one set and not in another, one of a few *samples* is: what two patterns have in common, with such a token
+//! in the place of each `*`. A search asks these, and no other.
 use crate::part::{Length, part_of};
 use crate::sample::sample_of;
 use base::NoMemory;

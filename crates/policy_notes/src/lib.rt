@@ -1,5 +1,6 @@
-//! What an operator is told of a policy's text beside its fault's line: where the fault stands, and which keys stand twice in
-//! one object (docs/POLICY.md, "Where a fault stands"). It judges nothing: the faults are those of `policy_text`.
+//! What an operator is told of a policy's text beside its fault's line: where the fault is, and which keys an object has
+//! twice (docs/POLICY.md, "Where a fault stands"). It judges nothing, and knows no connection: the faults are those of
+//! `policy_text`.
 #![tactic(auto)]
 
 mod notes;

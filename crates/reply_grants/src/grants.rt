@@ -1,3 +1,4 @@
+use crate::ended::{GrantEnd, end_of};
 use crate::grant_table::{
     GrantTable, Granted, MOST, count_response, drop_dead, drop_one, dropped, is_live, put,
 };
@@ -38,7 +39,7 @@ impl Model for Grants {
 }
 
 impl Grants {
-    ghost use Rattle.std.specs.Prelude.{◌≡◌, ◌≤◌, [], IfOk, length, filter};
+    ghost use Rattle.std.specs.Prelude.{◌≡◌, ◌≤◌, [], IfOk, None, true, length, filter};
     ghost use Rattle.reply_grants.specs.Grants.{has_live, after_note, after_response, after_end};
     ghost use Rattle.reply_grants.specs.Grants as grants;
 
@@ -74,6 +75,24 @@ impl Grants {
         ensures { result ≡ has_live subject.now now terms self.now }
     {
         is_live(&self.table, self.gone, subject, now, terms)
+    }
+
+    /// Returns why the subject's grant answers no more, where that is known; `None` where one is live.
+    pub fn end_of(
+        &self,
+        subject: &SubjectRef<'_>,
+        now: u64,
+        terms: Option<Terms>,
+    ) -> Option<GrantEnd>
+        ensures { has_live subject.now now terms self.now ≡ true → result ≡ None }
+    {
+        if self.live(subject, now, terms) {
+            return None;
+        }
+        match terms {
+            None => None,
+            Some(terms) => end_of(&self.table, subject, now, terms),
+        }
     }
 
     /// Counts a response on the subject's grant, if it has one.

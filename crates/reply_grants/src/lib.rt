@@ -2,6 +2,7 @@
 //! clock: the moment is what its caller says.
 #![tactic(auto)]
 
+mod ended;
 mod grant_table;
 mod grants;
 mod plain;
@@ -9,6 +10,7 @@ mod replies;
 mod subject_key;
 mod terms;
 
+pub use ended::GrantEnd;
 pub use grants::Grants;
 pub use plain::PlainGrant;
 pub use replies::{Note, Replies};

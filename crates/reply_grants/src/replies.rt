@@ -1,4 +1,4 @@
-use crate::{Grants, PlainGrant};
+use crate::{GrantEnd, Grants, PlainGrant};
 use base::{Items, NoMemory};
 use policy_doc::permission_doc::Terms;
 use std::alloc::Global;
@@ -34,7 +34,7 @@ impl Model for Replies {
 }
 
 impl Replies {
-    ghost use Rattle.std.specs.Prelude.{◌≡◌, [], None, Some, IfOk, is_some};
+    ghost use Rattle.std.specs.Prelude.{◌≡◌, [], None, Some, IfOk, is_some, true};
     ghost use Rattle.reply_grants.specs.Replies.{grants_of, noted, responded_in, ended_in, judged};
     ghost use Rattle.reply_grants.specs.Grants.{has_live};
 
@@ -82,6 +82,21 @@ impl Replies {
         match &self.table {
             None => false,
             Some(grants) => grants.live(subject, now, terms),
+        }
+    }
+
+    /// Returns why the subject's grant answers no more, where that is known; `None` where one is live.
+    pub fn end_of(
+        &self,
+        subject: &SubjectRef<'_>,
+        now: u64,
+        terms: Option<Terms>,
+    ) -> Option<GrantEnd>
+        ensures { has_live subject.now now terms (grants_of self.now) ≡ true → result ≡ None }
+    {
+        match &self.table {
+            None => None,
+            Some(grants) => grants.end_of(subject, now, terms),
         }
     }
 

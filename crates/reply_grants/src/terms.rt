@@ -20,7 +20,8 @@ pub(crate) fn is_below(bound: Option<u64>, count: u64) -> bool
     }
 }
 
-fn is_within(limit: Option<u64>, age: u64) -> bool
+/// Whether an age is within the limit. Without a limit every age is.
+pub(crate) fn is_within(limit: Option<u64>, age: u64) -> bool
     ensures { result ≡ grants.is_within limit age }
 {
     match limit {

@@ -21,6 +21,9 @@ const SPARE: usize = 16;
 
 /// The routes of one exporter. A clause sees them and for how many more there is room. Those that are dead at a moment stand
 /// until `prune` or `drop_dead` takes them out.
+///
+/// A route is found by its number, without a map of texts: where it stands if no number is missing before it, else by halves.
+/// What is dead leaves the memory a few at a time as others come.
 #[derive(Drop)]
 pub struct Exporter {
     last: u64,

@@ -1,8 +1,5 @@
-//! Response routes of all exporters, by the exporters' names, and on which terms requests across a row are answered. It knows
-//! no session and no subscription.
-//!
-//! A request that crosses into an exporting account opens a route. A response on the route's subject reaches the account
-//! that asked, on the reply of its request. `service_exporter` has what one exporter has.
+//! Response routes of all exporters, by the exporters' names, and on which terms requests across a row are answered. It
+//! knows no session and no subscription.
 #![tactic(auto)]
 
 mod laws;

@@ -23,6 +23,9 @@ type Exporters = IndexMap<Bytes, Exporter>;
 
 /// The response routes of all exporters. A clause sees each exporter's routes and the last number that it gave; those that
 /// are dead at a moment stand until `prune` or `drop_dead` takes them out. A look-up is one by a hash, then one by halves.
+///
+/// A request that crosses into an exporting account opens a route. A response on the route's subject reaches the account that
+/// asked, on the reply of its request.
 pub struct Routes {
     alloc: Global,
     exporters: Exporters,

@@ -1,8 +1,9 @@
-//! A hub for many threads: its lock, the seats that enter events, and the receipts of what was answered (docs/GUARANTEE.md,
-//! "Threads"). Above the lock an event is submitted; below it, it is a step of the hub. It knows no socket and no worker.
+//! A hub for many threads: its lock, the seats whose events are steps of it, and the receipts of what was answered
+//! (docs/GUARANTEE.md, "Threads"). It knows no socket and no worker.
 #![tactic(auto)]
 
 mod audit;
+mod counts;
 pub mod desk;
 mod port;
 mod shared_hub;
@@ -10,6 +11,7 @@ mod unlocked;
 
 pub use crate::desk::{Audit, Blank, Desk, Run, RunContext, Seat, Told, size_of};
 pub use audit::AuditFault;
+pub use counts::{HubCounts, SessionCounts};
 pub use hub::{Caps, Hub, Segment};
 pub use port::SharedPort;
 pub use shared_hub::SharedHub;

@@ -7,6 +7,7 @@ use crate::{Audit, Desk, Receipt, Run, RunContext, Seat, Told};
 use base::NoMemory;
 use events::Words;
 use hub::{Answer, Event, Hub, HubRefusal, Message, PublishRefusal, Segment};
+use reply_grants::GrantEnd;
 use std::alloc::Global;
 use std::collections::VecDeque;
 use std::hint::spin_loop;
@@ -25,7 +26,7 @@ fn pause(times: usize) {
 
 /// A hub that threads share. Each event is entered while its one lock is held; all else is done outside.
 pub struct SharedHub<L: Run> {
-    desk: Mutex<Desk<L>>,
+    pub(crate) desk: Mutex<Desk<L>>,
     rest: Rest<L>,
 }
 
@@ -244,6 +245,12 @@ impl<L: Run> SharedHub<L> {
             }
         }
         self.desk.lock(rt)
+    }
+
+    /// Why the grant that a connection's session has, or had, for a message's subject allows it no more, where that is
+    /// known.
+    pub fn grant_end<R: Wait>(&self, rt: &R, conn: u64, message: &Message) -> Option<GrantEnd> {
+        self.desk.lock(rt).hub().grant_end(conn, message)
     }
 
     /// How many deliveries wait for a connection, 0 without a session.

@@ -1,4 +1,7 @@
 //! Who waits for whom.
+//!
+//! While nobody waits, a message costs a test or two. A look-up is one by a hash; only a call that lets publishers on, or takes
+//! one out of where it stands, walks over those that wait.
 ghost use Rattle.std.specs.Prelude.{◌≡◌, ◌≤◌, ◌<◌, ◌+◌, ◌++◌, ◌∷◌, ◌==◌, [], ℕ, true, None, Some, Option, OnOk, OnErr, if◌then◌else◌, length, slice_index, take, nat_eq, vec_len, vec_capacity, ◌/◌};
 ghost use Rattle.std.specs.List.{list_any};
 ghost use Rattle.indexmap.specs.IndexMap.{get, spare};

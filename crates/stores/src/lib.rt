@@ -1,5 +1,5 @@
-//! Places to keep values in: a queue of fixed capacity, a list with one element a connection, slots for what is cached, and
-//! slots by rising number. It knows nothing of what is kept there.
+//! Places to keep values in: a queue of fixed capacity, a list by connection, slots for what is cached, and slots by rising
+//! number. It knows nothing of what is kept there.
 #![tactic(auto)]
 
 pub mod connections;

@@ -1,5 +1,5 @@
-//! The subscriptions that a subject reaches, found by the tokens of their patterns. It knows subscriptions by their ids
-//! alone.
+//! The subscriptions that a subject reaches, found by the tokens of their patterns. It knows neither whose a subscription is
+//! nor a message.
 #![tactic(auto)]
 
 mod branch;

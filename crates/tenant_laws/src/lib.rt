@@ -1,4 +1,4 @@
-//! Laws above the hub, of tenants: what others do can't be seen. They have no code, and no program calls them.
+//! Laws of tenants: a closed set of accounts sees nothing of what the others do. They have no code, and know no thread.
 #![tactic(auto)]
 
 mod laws;

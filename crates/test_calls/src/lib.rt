@@ -1,5 +1,4 @@
-//! Tests of crates below the hub, of calls that no script makes. They see each crate as every caller does, by its public
-//! contract alone.
+//! Tests of crates below the hub by their public contracts alone, of calls that no script makes. They know no hub.
 #![tactic(auto)]
 
 #[cfg(test)]

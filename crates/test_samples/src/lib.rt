@@ -1,5 +1,4 @@
-//! Policies and commands for tests. Where memory could not be had there is none, and a test that wants one fails. They
-//! have no clauses: what a test asserts, it computes. It knows no hub.
+//! Policies and commands that tests share. They have no clause, and know no hub.
 #![tactic(auto)]
 
 mod commands;

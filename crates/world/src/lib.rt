@@ -6,6 +6,7 @@ mod carry_out;
 mod change;
 pub mod copies;
 mod decide;
+mod granting;
 mod plain;
 mod reload;
 mod verdict;

@@ -76,7 +76,7 @@ impl World {
     ghost use Rattle.world.specs.Holding.{IsAppliedIf, IsMovedIf};
     ghost use Rattle.world.specs.Reload.{AreEntitled};
     ghost use Rattle.world_routing.specs.Remembered.{AreOfPolicy};
-    ghost use Rattle.world.specs.Shown.{standing_of, waiting_of};
+    ghost use Rattle.world.specs.Shown.{standing_of, subscribed_of, waiting_of};
 
     /// Returns the tables over a policy, with nobody connected. `outbox` is how many deliveries may wait for a session.
     /// Clients choose the tokens of subjects and the names of queues, so what finds them is hashed under keys that they
@@ -331,6 +331,13 @@ impl World {
             None => None,
             Some(session) => Some((session.outbox.len(), session.missed)),
         }
+    }
+
+    /// Returns how many subscriptions the connection has.
+    pub fn subscribed(&self, conn: u64) -> usize
+        ensures { result ≡ subscribed_of self.now conn }
+    {
+        self.subscriptions.count_of(conn)
     }
 }
 

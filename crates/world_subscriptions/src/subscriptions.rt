@@ -54,7 +54,7 @@ impl Model for Subscriptions {
 impl Subscriptions {
     ghost use Rattle.std.specs.Prelude.{◌≡◌, ◌==◌, ◌<◌, ◌≤◌, ◌++◌, ◌∷◌, List, [], IfOk, OnOk, OnErr, All, AllPairs, false, length, map, filter, not, find, drop};
     ghost use Rattle.std.specs.Option.{option_copied};
-    ghost use Rattle.world_subscriptions.specs.Subscriptions.{has_same_sid, stands, has_all, subscription_of, having};
+    ghost use Rattle.world_subscriptions.specs.Subscriptions.{has_same_sid, stands, has_all, of_connection, subscription_of, having};
     ghost use Rattle.world_subscriptions.specs.Addressing.{addressed_to};
     ghost use Rattle.events.specs.Messages.{Message};
     ghost use Rattle.world_subscriptions.specs.Limit.{has_ended, unended, limited, counted};
@@ -117,6 +117,13 @@ impl Subscriptions {
         ensures { result ≡ stands self.now conn sid.now }
     {
         self.id_of(conn, sid).is_some()
+    }
+
+    /// Returns how many subscriptions the connection has.
+    pub fn count_of(&self, conn: u64) -> usize
+        ensures { result ≡ length (of_connection conn self.now) }
+    {
+        self.sids.count_of(conn)
     }
 
     /// Returns whether the connection has as many subscriptions as it may have, 4,096.
