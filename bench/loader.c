@@ -247,7 +247,7 @@ static long done(const Receiver *by, int how_many)
     return is_queue ? sum : least;
 }
 
-/* Waits until so many messages are done; dies if for a minute none is. */
+/* Waits until this number of messages is done; dies if for a minute none is. */
 static void wait_for(long wanted, const Receiver *by, int how_many)
 {
     double last = now();

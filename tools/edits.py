@@ -26,7 +26,7 @@ NAMES = re.compile(r"(\./)?proofs/.*(has no field|is not in scope|has no `|was n
 
 
 def without_arguments(text):
-    """Returns a type or the head of a block without what stands in angle brackets."""
+    """Returns a type or the head of a block without what is in angle brackets."""
     text = text.replace("->", "")
     while re.search(r"<[^<>]*>", text):
         text = re.sub(r"<[^<>]*>", "", text)
@@ -55,7 +55,7 @@ def block_name(head):
 
 
 def function_at(text, at):
-    """Returns the function of a .rt file in which a place stands, by its path below the file's module, or None."""
+    """Returns the function of a .rt file that has a place, by its path below the file's module, or None."""
     block = function = indent = None
     begin = 0
     for line in text.split("\n"):

@@ -73,7 +73,7 @@ def remember(lib):
         return list(crate.found_below)
 
     def count_once(crate, pattern):
-        """Returns how often a pattern stands in a crate's code, by which jobs and memory are planned and nothing is judged."""
+        """Returns how often a crate's code has a pattern, by which jobs and memory are planned and nothing is judged."""
         counts = vars(crate).setdefault("counts", {})
         if pattern not in counts:
             counts[pattern] = count(crate, pattern)
@@ -199,7 +199,7 @@ def give(crate, made):
 
 
 def is_checked(crate):
-    """Returns whether a program was checked as it stands, over the libraries below as they are built."""
+    """Returns whether a program was checked as it is, over the libraries below as they are built."""
     file = f"{crate.folder}/out/checked"
     return os.path.isfile(file) and open(file, encoding="utf-8").read() == crate.stamp()
 

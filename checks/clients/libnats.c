@@ -45,7 +45,7 @@ static int read_count(Seen *seen, int *what)
     return now;
 }
 
-/* Waits until so many were counted. */
+/* Waits until this number was counted. */
 static int reaches(Seen *seen, int *what, int wanted)
 {
     for (int waited = 0; waited < LIMIT; waited += 5) {

@@ -14,7 +14,7 @@ def messages(subject, count):
 
 @storm(1, 2)
 def wrong_line(program, divide, workers):
-    """PING and a wrong line in one piece, behind messages for the same client: MSG, PONG, -ERR, and none is lost"""
+    """PING and a wrong line in one piece, after messages for the same client: MSG, PONG, -ERR, and none is lost"""
     rounds = 30
     with Server(program, "--workers", workers) as server:
         publisher = Client(server)
@@ -52,13 +52,13 @@ def verbose(program, divide, workers):
                     early = b""
                 client.send(PIECE[cut:])
                 got = early + client.take(len(ANSWERS) - len(early))
-                want(got == ANSWERS, f"cut behind {cut} bytes: {shown(got)}")
+                want(got == ANSWERS, f"cut after {cut} bytes: {shown(got)}")
     return f"{len(PIECE)} cuts"
 
 
 @storm(1, 2)
 def many_verbose(program, divide, workers):
-    """1,000 messages of a verbose client to itself in one piece, each 50 with a PING: none behind its PONG"""
+    """1,000 messages of a verbose client to itself in one piece, each 50 with a PING: none after its PONG"""
     with Server(program, "--workers", workers) as server:
         client = Client(server, verbose=True)
         client.send(b"SUB mine 1\r\n")
@@ -71,11 +71,11 @@ def many_verbose(program, divide, workers):
                 accepted += 1
             elif line == b"PONG":
                 pongs += 1
-                want(accepted == came == 50 * pongs, f"PONG {pongs} stands behind {accepted} +OK and {came} messages")
+                want(accepted == came == 50 * pongs, f"PONG {pongs} comes after {accepted} +OK and {came} messages")
             else:
                 want(line == b"MSG mine 1 16" and client.take(SIZE + 2) == b"%016d\r\n" % came, f"came {line!r}")
                 came += 1
-                want(came <= accepted, f"message {came} stands before its +OK")
+                want(came <= accepted, f"message {came} comes before its +OK")
 
 
 if __name__ == "__main__":

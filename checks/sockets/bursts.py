@@ -85,7 +85,7 @@ def two_lag(program, workers, ahead, *words):
 
 
 def read_paced(receiving, rate, end):
-    """Reads so many bytes a second until a moment."""
+    """Reads this number of bytes a second until a moment."""
     begin = time.monotonic()
     receiving.client.socket.settimeout(0.5)
     while (passed := time.monotonic()) < end:

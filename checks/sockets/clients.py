@@ -64,10 +64,10 @@ def wait_for(what, why, limit=LIMIT):
 
 
 def raise_descriptors(wanted):
-    """Lets this process, and what it starts, have so many descriptors."""
+    """Lets this process, and what it starts, have this number of descriptors."""
     soft, hard = resource.getrlimit(resource.RLIMIT_NOFILE)
     want(hard == resource.RLIM_INFINITY or hard >= wanted,
-         f"the limit of descriptors has to be {wanted} at least, and {hard} is the most that can be had (ulimit -Hn)")
+         f"the limit of descriptors has to be {wanted} at least, and the system gives {hard} at most (ulimit -Hn)")
     resource.setrlimit(resource.RLIMIT_NOFILE, (max(soft, wanted), hard))
 
 
@@ -254,7 +254,7 @@ class Client:
         """Returns the next message: subject, sid, reply or none, and payload."""
         *fields, size = self.line(b"MSG ").split(b" ")
         payload = self.take(int(size) + 2)
-        want(payload.endswith(b"\r\n"), f"no line end behind {shown(payload)}")
+        want(payload.endswith(b"\r\n"), f"no line end after {shown(payload)}")
         return fields[0], fields[1], fields[2] if len(fields) > 2 else None, payload[:-2]
 
     def rest(self):
@@ -323,7 +323,7 @@ class Flood:
         self.wanted = len(self.pattern) // self.EACH * messages
 
     def is_front(self, data, at=0):
-        """Whether this is what a receiver is to get behind its first `at` bytes."""
+        """Whether this is what a receiver is to get after its first `at` bytes."""
         size = len(self.pattern)
         return all(data[it:it + size] == self.twice[(at + it) % size:][:len(data[it:it + size])]
                    for it in range(0, len(data), size))
@@ -355,7 +355,7 @@ class Receiving:
         self.flood, self.client, self.got = flood, client, 0
 
     def step(self, most=None):
-        """Reads what has come, at most so many bytes, and returns whether all has."""
+        """Reads what has come, at most this number of bytes, and returns whether all has."""
         try:
             data = self.client.socket.recv(most or len(self.flood.pattern))
         except BlockingIOError:

@@ -97,7 +97,7 @@ def end_of_chat(program, divide, workers):
 
 
 class Unread(Server):
-    """A server whose standard output nobody reads behind its first line, a pipe that takes 4,096 bytes."""
+    """A server whose standard output nobody reads after its first line, a pipe that takes 4,096 bytes."""
 
     def _listen(self):
         fcntl.fcntl(self.process.stdout, fcntl.F_SETPIPE_SZ, 4096)

@@ -24,7 +24,7 @@ CHURN, STANDING = 20_000, 64
 
 
 def have_descriptors(wanted):
-    """Lets this process, and what it starts, have so many descriptors, or as many as can be had. Returns how many."""
+    """Lets this process, and what it starts, have a number of descriptors, or as many as there are. Returns how many."""
     soft, hard = resource.getrlimit(resource.RLIMIT_NOFILE)
     if hard != resource.RLIM_INFINITY and hard < wanted:
         try:

@@ -1,8 +1,10 @@
-"""What checks need of the host: network namespaces in the place of other hosts, and programs of Debian's packages."""
+"""What checks need of the host: network namespaces in the place of other hosts, programs of Debian's packages, and clients over
+libnats."""
 
 import contextlib
 import ctypes
 import os
+import pathlib
 import shutil
 import subprocess
 import sys
@@ -41,17 +43,56 @@ def lacks_namespaces():
     return found.stderr.strip() if found.returncode else ""
 
 
+def install(package):
+    """Installs a package of Debian's, if this user may."""
+    how = [] if os.geteuid() == 0 else ["sudo", "-n"]
+    words = [*how, "apt-get", "-o", "DPkg::Lock::Timeout=120", "install", "-y", "--no-install-recommends", package]
+    with contextlib.suppress(FileNotFoundError):
+        if subprocess.run(words, **NOWHERE).returncode:
+            subprocess.run([*how, "apt-get", "update"], **NOWHERE)
+            subprocess.run(words, **NOWHERE)
+
+
 def lacks(program, package):
     """Returns that there is no such program, after an attempt to install its package, or nothing if there is one."""
     os.environ["PATH"] += os.pathsep + "/usr/sbin"
     if not shutil.which(program):
-        how = [] if os.geteuid() == 0 else ["sudo", "-n"]
-        install = [*how, "apt-get", "-o", "DPkg::Lock::Timeout=120", "install", "-y", "--no-install-recommends", package]
-        with contextlib.suppress(FileNotFoundError):
-            if subprocess.run(install, **NOWHERE).returncode:
-                subprocess.run([*how, "apt-get", "update"], **NOWHERE)
-                subprocess.run(install, **NOWHERE)
+        install(package)
     return "" if shutil.which(program) else f"there is no {program}, and {package} can't be installed"
+
+
+def lacks_libnats():
+    """Returns that nothing can be built against libnats, after an attempt to install it, or nothing if something can."""
+    probe = ["sh", "-c", "echo '#include <nats/nats.h>' | cc -E -"]
+    if subprocess.run(probe, **NOWHERE).returncode:
+        install("libnats-dev")
+    return "libnats-dev isn't here and can't be installed" if subprocess.run(probe, **NOWHERE).returncode else ""
+
+
+def over_libnats(name, room):
+    """Builds a client of checks/clients in a folder, and returns it."""
+    source = pathlib.Path(__file__).resolve().parents[1] / "clients" / f"{name}.c"
+    subprocess.run(["cc", "-O1", "-o", f"{room}/{name}", source, "-lnats", "-lpthread"], check=True)
+    return f"{room}/{name}"
+
+
+# Where Debian's golang-github-nats-io-go-nats-dev has nats.go.
+GO_SOURCES = pathlib.Path("/usr/share/gocode")
+
+
+def lacks_nats_go():
+    """Returns that nothing can be built against nats.go, or nothing if something can. Nobody installs a Go for a check."""
+    is_there = shutil.which("go") and (GO_SOURCES / "src/github.com/nats-io/nats.go").is_dir()
+    return "" if is_there else "golang-go and golang-github-nats-io-go-nats-dev aren't here"
+
+
+def over_nats_go(text, room):
+    """Builds a program over nats.go in a folder, and returns it."""
+    source = pathlib.Path(room) / "main.go"
+    source.write_text(text)
+    settings = {"GO111MODULE": "off", "GOPATH": str(GO_SOURCES), "GOCACHE": f"{room}/cache", "GOFLAGS": ""}
+    subprocess.run(["go", "build", "-o", f"{room}/main", source], env={**os.environ, **settings}, check=True)
+    return f"{room}/main"
 
 
 def skip_if(*reasons):

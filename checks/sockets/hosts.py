@@ -13,16 +13,20 @@ import re
 import shlex
 import shutil
 import signal
+import ssl
 import subprocess
 import tempfile
+import threading
 import time
 
 from clients import Client, Failed, run, wait_for, want
-from hosting import ip, lacks, lacks_namespaces, skip_if, within
+from hosting import ip, lacks, lacks_libnats, lacks_namespaces, over_libnats, skip_if, within
 
 SETS = pathlib.Path(__file__).resolve().parents[2] / "packaging" / "sets"
 PROXY = "10.78.0.1"
 HOSTS = {"ONE": "10.78.0.11", "THREE": "10.78.0.12", "FOUR": "10.78.0.13"}
+# The host of a client that vanishes.
+FAR = "10.78.0.21"
 PORTS = {"ONE": 4222, "TWO": 4222, "THREE": 4223, "FOUR": 4224}
 # HAProxy looks every two seconds, and takes a server for dead after two looks.
 SOON = 15
@@ -31,6 +35,11 @@ SOON = 15
 def name_of(address):
     """Returns the namespace of an address."""
     return f"natsd-{os.getpid()}-{address.rpartition('.')[2]}"
+
+
+def host_of(account):
+    """Returns the name by which clients of TLS reach an account."""
+    return f"{account.lower()}.example.com"
 
 
 def policy(joined=False, gone=False):
@@ -47,29 +56,45 @@ def policy(joined=False, gone=False):
 
 
 class Net:
-    """Three hosts and a proxy on one network, with a folder each."""
+    """Three hosts, a proxy and a client's host on one network, with a folder each."""
 
-    def __init__(self, program, room):
+    def __init__(self, program, room, divided, is_named):
         self.program, self.room, self.servers, self.proxy = program, pathlib.Path(room), {}, None
+        # By how much HAProxy's times for clients that vanish are divided.
+        self.divided = divided
+        # Whether the sets have names for clients of TLS.
+        self.is_named = is_named
 
     def begin(self):
         """Makes the hosts, their links, and the table of sets."""
         (self.room / "sets").mkdir()
-        rows = [f"{it} {PORTS[it]} {address}:4222\n" for it, address in HOSTS.items()]
+        hosts = {it: f" {host_of(it)}" if self.is_named else "" for it in HOSTS}
+        rows = [f"{it} {PORTS[it]} {address}:4222{hosts[it]}\n" for it, address in HOSTS.items()]
         (self.room / "sets" / "table").write_text("".join(rows))
-        for address in (PROXY, *HOSTS.values()):
+        if self.is_named:
+            self.certify()
+        for address in (PROXY, FAR, *HOSTS.values()):
             (self.room / address).mkdir()
             ip("netns", "add", name_of(address))
             ip("-n", name_of(address), "link", "set", "lo", "up")
         ip("-n", name_of(PROXY), "link", "add", "bridge", "type", "bridge")
-        for address in HOSTS.values():
+        for address in (FAR, *HOSTS.values()):
             link = f"to{address.rpartition('.')[2]}"
             peer = ("type", "veth", "peer", "name", "veth0", "netns", name_of(address))
             ip("-n", name_of(PROXY), "link", "add", link, *peer)
             ip("-n", name_of(PROXY), "link", "set", link, "master", "bridge", "up")
-        for address, link in ((PROXY, "bridge"), *((it, "veth0") for it in HOSTS.values())):
+        for address, link in ((PROXY, "bridge"), *((it, "veth0") for it in (FAR, *HOSTS.values()))):
             ip("-n", name_of(address), "address", "add", f"{address}/24", "dev", link)
             ip("-n", name_of(address), "link", "set", link, "up")
+
+    def certify(self):
+        """Makes the certificate of the names."""
+        names = ",".join(f"DNS:{host_of(it)}" for it in (*HOSTS, "none"))
+        line = ["openssl", "req", "-x509", "-newkey", "rsa:2048", "-nodes", "-days", "1", "-subj", "/CN=natsd"]
+        line += ["-addext", f"subjectAltName={names}", "-keyout", self.room / "key.pem", "-out", self.room / "cert.pem"]
+        subprocess.run(line, check=True, capture_output=True)
+        both = "".join((self.room / f"{it}.pem").read_text() for it in ("key", "cert"))
+        (self.room / "sets" / "tls.pem").write_text(both)
 
     def link(self, address, state):
         ip("-n", name_of(address), "link", "set", "veth0", state)
@@ -116,12 +141,21 @@ class Net:
     def reload_proxy(self):
         path = self.room / "haproxy.cfg"
         text = (self.room / "sets" / "haproxy.cfg").read_text()
-        path.write_text(re.sub(r"^( *stats socket) \S+", rf"\1 {self.room}/admin.sock", text, flags=re.M))
+        text = re.sub(r"^( *stats socket) \S+", rf"\1 {self.room}/admin.sock", text, flags=re.M)
+        times = r"(clitcpka-\w+|tcp-ut) (\d+)s"
+        path.write_text(re.sub(times, lambda it: f"{it[1]} {int(it[2]) // self.divided}s", text))
         if self.proxy:
+            # (in its first moments it ignores the signal)
+            wait_for(lambda: catches(self.proxy.pid, signal.SIGUSR2), "HAProxy can be told to reload", SOON)
             self.proxy.send_signal(signal.SIGUSR2)
             return
         line = ["ip", "netns", "exec", name_of(PROXY), "haproxy", "-W", "-f", path]
         self.proxy = subprocess.Popen(line, stdout=subprocess.DEVNULL, stderr=subprocess.DEVNULL)
+
+    def tells_proxy(self, line):
+        """Gives HAProxy a command, as docs/OPERATING.md does."""
+        ran = subprocess.run(["socat", "-", f"{self.room}/admin.sock"], input=f"{line}\n", capture_output=True, text=True)
+        want((ran.returncode, ran.stdout.strip(), ran.stderr) == (0, "", ""), f"{line}: {ran}")
 
     def close(self):
         for it in [*self.servers.values(), *([self.proxy] if self.proxy else [])]:
@@ -130,32 +164,91 @@ class Net:
         remove()
 
 
+def catches(number, it):
+    """Returns whether a process handles a signal."""
+    caught = re.search(r"^SigCgt:\s+(\w+)", pathlib.Path(f"/proc/{number}/status").read_text(), re.M)[1]
+    return int(caught, 16) >> (it - 1) & 1
+
+
 def remove():
-    for address in (PROXY, *HOSTS.values()):
+    for address in (PROXY, FAR, *HOSTS.values()):
         ip("netns", "delete", name_of(address), check=False)
 
 
 class Tenant(Client):
     """A client of an account, through the proxy. It has a subscription to everything."""
 
-    def __init__(self, account, user=None):
+    def __init__(self, account, user=None, host=PROXY):
         self.address = PROXY, PORTS[account]
-        with within(name_of(PROXY)):
+        with within(name_of(host)):
             super().__init__(self, user=user or account.lower())
         self.subscribe(b">")
 
 
+class OverTls(Client):
+    """A client of an account that begins TLS when it dials, by a name. It has a subscription to everything."""
+
+    def __init__(self, net, account, name=None):
+        self.address = PROXY, 4443
+        with within(name_of(PROXY)):
+            super().__init__(self, connect=None)
+        context = ssl.create_default_context(cafile=net.room / "cert.pem")
+        self.socket = context.wrap_socket(self.socket, server_hostname=host_of(name or account))
+        self.line(b"INFO ")
+        self.send(self.connecting(account.lower()))
+        self.ping()
+        self.subscribe(b">")
+
+
+class OverLibnats:
+    """A tenant's client over libnats, through the proxy. It has a subscription to everything."""
+
+    def __init__(self, client, account):
+        self.account, name, self.lines = account, account.lower(), []
+        line = ["ip", "netns", "exec", name_of(PROXY), client, f"nats://{name}:{name}@{PROXY}:{PORTS[account]}"]
+        self.process = subprocess.Popen(line, stdin=subprocess.PIPE, stdout=subprocess.PIPE, text=True)
+        threading.Thread(target=self._listen, daemon=True).start()
+
+    def _listen(self):
+        for line in self.process.stdout:
+            self.lines.append(line)
+
+    def publish(self, text):
+        self.process.stdin.write(f"{text}\n")
+        self.process.stdin.flush()
+
+    def waits_for(self, *lines):
+        """Waits until it has printed these lines behind each other, among others."""
+        def came():
+            rest = iter([*self.lines])
+            return all(f"{it}\n" in rest for it in lines)
+
+        wait_for(came, f"{lines} of {self.account}; there are {self.lines}", SOON)
+
+    def __enter__(self):
+        return self
+
+    def __exit__(self, *_):
+        self.process.kill()
+        self.process.wait()
+
+
 def connected(account, user=None):
     """Connects a tenant as soon as its server takes it."""
-    made = []
+    return made(account, lambda: Tenant(account, user))
+
+
+def made(account, make):
+    """Returns a client of an account as soon as one can be made."""
+    found = []
 
     def tries():
         with contextlib.suppress(Failed, OSError):
-            made.append(Tenant(account, user))
-        return made
+            found.append(make())
+        return found
 
     wait_for(tries, f"a client of {account} is served", SOON)
-    return made[0]
+    return found[0]
 
 
 def publishes(tenants, account, wanted):
@@ -186,9 +279,9 @@ def is_closed(it):
 
 
 @contextlib.contextmanager
-def network(program):
+def network(program, divided=1, is_named=False):
     with tempfile.TemporaryDirectory() as room:
-        net = Net(program, room)
+        net = Net(program, room, divided, is_named)
         try:
             net.begin()
             net.install(policy())
@@ -223,6 +316,63 @@ def joins(program, divide):
         all_publish(tenants)
 
 
+def each_publishes(clients, joined):
+    """Has each client over libnats publish, and shows that exactly those get it that are to, under their subjects."""
+    begun = {name: len(it.lines) for name, it in clients.items()}
+    wanted = {name: {f"news.x {text}-{name}" for text in ("one", "end")} for name in clients}
+    across = {"TWO": "ONE", **({"FOUR": "THREE"} if joined else {})}
+    for name, exporter in across.items():
+        wanted[name] |= {f"{exporter.lower()}.news.x {text}-{exporter}" for text in ("one", "end")}
+    for text in ("one", "end"):
+        for name, it in clients.items():
+            it.publish(f"{text}-{name}")
+        for name, it in clients.items():
+            it.waits_for(*(line for line in sorted(wanted[name]) if f" {text}-" in line and name in line))
+    for name, it in clients.items():
+        wait_for(lambda: len(it.lines) - begun[name] >= len(wanted[name]), f"all of {name}; there are {it.lines}", SOON)
+        got = [line.rstrip("\n") for line in it.lines[begun[name]:]]
+        want(sorted(got) == sorted(wanted[name]), f"{name} got {got}, and not {wanted[name]}")
+
+
+def moves(program, divide):
+    """Clients over libnats connect again by themselves where a join moves them, and no other client notices"""
+    reason = lacks_libnats()
+    if reason:
+        return f"CLIENTS OVER LIBNATS ARE SKIPPED: {reason}"
+    with network(program) as (net, _), tempfile.TemporaryDirectory() as room, contextlib.ExitStack() as stack:
+        client = over_libnats("tenant", room)
+        clients = {it: stack.enter_context(OverLibnats(client, it)) for it in PORTS}
+        for it in clients.values():
+            it.waits_for("connected")
+        each_publishes(clients, joined=False)
+        net.install(policy(joined=True))
+        clients["FOUR"].waits_for("connected", "disconnected", "connected")
+        each_publishes(clients, joined=True)
+        for name, it in clients.items():
+            want(it.lines.count("disconnected\n") == (name == "FOUR"), f"{name}: {it.lines}")
+    return "one of four is moved"
+
+
+def drains(program, divide):
+    """A server that drains lets no client in and keeps those that it has, until they are shut down and it is ready again"""
+    with network(program) as (net, tenants):
+        net.tells_proxy("set server ONE/natsd state drain")
+        all_publish(tenants)
+        try:
+            Tenant("ONE")
+        except (Failed, OSError):
+            pass
+        else:
+            want(False, "another client is let in")
+        net.tells_proxy("shutdown sessions server ONE/natsd")
+        for it in ("ONE", "TWO"):
+            is_closed(tenants.pop(it))
+        all_publish(tenants)
+        net.tells_proxy("set server ONE/natsd state ready")
+        tenants |= {it: connected(it) for it in ("ONE", "TWO")}
+        all_publish(tenants)
+
+
 def dies(program, divide):
     """A host that vanishes takes its set alone, and has its clients again once it is back"""
     with network(program) as (net, tenants):
@@ -238,6 +388,52 @@ def dies(program, divide):
     return f"its clients are told after {took:.1f} s"
 
 
+def sockets(net, account):
+    """Returns how many connections the server of an account has, of HAProxy's looks too."""
+    line = ["ip", "netns", "exec", name_of(HOSTS[account]), "ss", "-Htn", "state", "established"]
+    return len(subprocess.run(line, capture_output=True, text=True, check=True).stdout.splitlines())
+
+
+def vanishes(program, divide):
+    """A client whose host vanishes, silent or sent to, is closed by HAProxy, in a tenth of its times here"""
+    with network(program, divided=10) as (net, tenants):
+        before, took = sockets(net, "FOUR"), []
+        for is_sent_to in (False, True):
+            far = Tenant("FOUR", host=FAR)
+            wait_for(lambda: sockets(net, "FOUR") > before, "one more connection", SOON)
+            net.link(FAR, "down")
+            begin = time.monotonic()
+            if is_sent_to:
+                publishes(tenants, "FOUR", {"FOUR": b"news.x"})
+            wait_for(lambda: sockets(net, "FOUR") <= before, "its connection is closed", SOON)
+            took.append(f"{time.monotonic() - begin:.1f} s")
+            net.link(FAR, "up")
+            far.close()
+        all_publish(tenants)
+    return f"after {' and '.join(took)}"
+
+
+def by_names(program, divide):
+    """Clients of TLS reach their tenants' servers by names at one port, and a name of nobody reaches none"""
+    with network(program, is_named=True) as (net, tenants):
+        for it in HOSTS:
+            tenants.pop(it).close()
+            tenants[it] = OverTls(net, it)
+        all_publish(tenants)
+        try:
+            OverTls(net, "ONE", name="none")
+        except (Failed, OSError):
+            pass
+        else:
+            want(False, "a name of nobody reaches somebody")
+        net.install(policy(joined=True))
+        with contextlib.suppress(OSError):
+            is_closed(tenants["FOUR"])
+        tenants["FOUR"] = made("FOUR", lambda: OverTls(net, "FOUR"))
+        all_publish(tenants, {"FOUR": b"three.news.x"})
+    return "three names, one of them moved"
+
+
 if __name__ == "__main__":
-    skip_if(lacks_namespaces(), lacks("haproxy", "haproxy"))
-    run(__doc__, apart, joins, dies)
+    skip_if(lacks_namespaces(), lacks("haproxy", "haproxy"), lacks("socat", "socat"), lacks("openssl", "openssl"))
+    run(__doc__, apart, joins, moves, drains, dies, vanishes, by_names)

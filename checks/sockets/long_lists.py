@@ -181,7 +181,7 @@ def reload_all(server, probe, rounds, is_enough):
 
 
 def beside(program, divide, workers, writing):
-    """Reloads and probes while so many writers publish."""
+    """Reloads and probes while a number of writers publish."""
     rounds, work, heard = max(ROUNDS // divide, 20), Working(), {"reader": {}, "second": {}}
     # (the history keeps little, so that what grows is what reloads leave)
     with Server(program, "--workers", workers, "--history-bytes", 1 << 20, policy=policy(1)) as server:

@@ -1,7 +1,7 @@
 #!/usr/bin/env python3
 """What a client was to be sent when it sent a PING is sent before the PONG.
 
-A client that drains sends UNSUB and PING, and drops what comes for that subscription behind the PONG. So it would lose
+A client that drains sends UNSUB and PING, and drops what comes for that subscription after the PONG. So it would lose
 what comes late.
 """
 
@@ -14,7 +14,7 @@ ROUNDS = 200
 
 
 def pong_is_last(client, count, text):
-    """Reads up to the PONG, and wants so many messages before it."""
+    """Reads up to the PONG, and wants this number of messages before it."""
     for number in range(count):
         line = client.line()
         want(line != b"PONG", f"the PONG came before {count - number} of {count} messages, accepted before its PING")
@@ -66,7 +66,7 @@ def end_in_flood(client, sid):
     client.send(b"SUB last %b\r\n" % sid)
     count = 0
     while (line := client.line()) != b"PONG":
-        want(line.startswith(b"MSG last %b " % sid), f"{line!r} came behind the PONG to its UNSUB")
+        want(line.startswith(b"MSG last %b " % sid), f"{line!r} came after the PONG to its UNSUB")
         client.take(6)
         count += 1
         if count == 1:

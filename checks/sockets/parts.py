@@ -64,7 +64,7 @@ def split(program, room):
 
 
 def say(client, text):
-    """Sends a text and a PING, and waits for the PONG, which comes behind all that was accepted for the client before."""
+    """Sends a text and a PING, and waits for the PONG, which comes after all that was accepted for the client before."""
     client.send(text + b"PING\r\n")
     before = len(client.got)
     while b"PONG\r\n" not in client.got[before:]:

@@ -77,7 +77,7 @@ def untouched(program, divide):
 
 
 def places(program, divide):
-    """Where a fault stands, and keys that stand twice"""
+    """Where a fault is, and keys that an object has twice"""
     for level in ("denials", "none"):
         with Server(program, "--log", level, policy=POLICY, file=True) as server:
             server.write(FAULT)
@@ -108,7 +108,7 @@ def starts(program, divide):
         path.write_text(json.dumps(POLICY))
         with Server(program, policy=POLICY) as server:
             address = ":".join(map(str, server.address))
-            for listen, reason in [(address, "Address already in use"), ("localhost:0", "no numeric address with a port")]:
+            for listen, reason in [(address, "Address already in use"), *((it, f"{it}: no numeric address with a port, such as 0.0.0.0:4222") for it in (":4222", "localhost:4222", "4222"))]:
                 status, printed, lines = ended(program, path, "--listen", listen)
                 want((status, printed) == (1, "listen failed\n"), f"{listen}: {status}, {printed}")
                 want(lines[-1]["event"] == "failed" and reason.lower() in lines[-1]["text"].lower(), f"{listen}: {lines}")

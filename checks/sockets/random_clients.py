@@ -259,7 +259,7 @@ class World:
         while any(it.asked and not it.is_ended for it in standing):
             self.turn(standing, time.monotonic(), False)
             want(time.monotonic() < end, f"not answered within {LIMIT} s: {[len(it.asked) for it in standing]}")
-        # (what was accepted late may come behind the first PONGs)
+        # (what was accepted late may come after the first PONGs)
         for it in standing:
             if not it.is_ended:
                 it.ask(b"PING\r\n", "ping")

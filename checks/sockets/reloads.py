@@ -129,7 +129,7 @@ def visit(traffic):
                     traffic.closed.add(client.number)
         else:
             want(first + b"\r\n" == TEXTS["authorization"], f"a guest's CONNECT was answered {shown(first)}")
-            want(client.rest() == b"", "something comes behind the text")
+            want(client.rest() == b"", "something comes after the text")
             time.sleep(0.03)
         client.close()
 

@@ -83,7 +83,7 @@ def reads_again(program, divide):
         want(flood.is_front(front), f"wrong bytes came: {shown(got)}")
         want(len(front) % (len(flood.pattern) // flood.EACH) == 0, "a message was cut")
         if is_closed:
-            want(not receiver.more(), "something comes behind the text")
+            want(not receiver.more(), "something comes after the text")
         else:
             receiver.take(len(got))
             receiver.ping()
@@ -103,7 +103,7 @@ def outbox_of_one(program, divide):
             want(client.more(), f"closed after {client.got!r}")
         missed = client.got.endswith(TEXTS["slow"])
         if missed:
-            want(not client.more(), "something comes behind the text")
+            want(not client.more(), "something comes after the text")
         with Client(server) as other:
             other.ping()
     return "missed, with the text" if missed else "both came"

@@ -195,7 +195,7 @@ class Hearing:
                 self.last = time.monotonic()
 
     def wait(self, count, why, limit=LIMIT):
-        """Waits until so many bytes have come."""
+        """Waits until this number of bytes has come."""
         end = time.monotonic() + limit
         while self.bytes < count:
             want(not self.ended, f"{len(self.ended)} receivers were closed: {why}")

@@ -79,7 +79,7 @@ def cuts(program, divide):
                 client.send(BYTES[cut:])
                 client.socket.shutdown(socket.SHUT_WR)
                 got = first + client.rest()
-                want(got == answers_of(len(BYTES)), f"cut behind {cut} bytes: {shown(got)}")
+                want(got == answers_of(len(BYTES)), f"cut after {cut} bytes: {shown(got)}")
     return f"{len(BYTES) - 1} connections"
 
 

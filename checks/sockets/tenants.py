@@ -10,7 +10,7 @@ PUB = b"PUB ab 1\r\nx\r\n"
 
 
 def beside_piece(program, workers, messages, sessions, subscriptions, bound):
-    """One piece of so many messages to so many sessions, three times."""
+    """One piece of a number of messages to a number of sessions, three times."""
     raise_descriptors(sessions + 200)
     with Server(program, "--workers", workers, policy=TENANTS) as server:
         publisher, receivers = Client(server), spread(server, sessions, workers)
@@ -140,7 +140,7 @@ def very_large_reload(program, divide, workers):
 
 
 def beside_reloads(program, workers, each):
-    """Reloads while so many subscriptions of each of 50 users stand."""
+    """Reloads while each of 50 users has this number of subscriptions."""
     users = 50
     with Server(program, "--workers", workers, policy=large_policy(users, 0)) as server:
         clients = [client_on(server, it % workers, workers, user=f"u{it}") for it in range(users)]

@@ -59,7 +59,7 @@ def policy(number):
 
 
 def do(client, frames):
-    """Sends frames with a PING behind them, and reads until that is answered."""
+    """Sends frames and a PING, and reads until that is answered."""
     client.send(frames + b"PING\r\n")
     while b"PONG\r\n" not in client.got:
         want(client.more(), f"closed after {shown(client.got)}")

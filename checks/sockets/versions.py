@@ -31,7 +31,7 @@ def pub(subject, text):
 
 
 def write(server, name, stop, written):
-    """A writer: pieces of numbered messages, each behind the answer to the last."""
+    """A writer: pieces of numbered messages, each after the answer to the last."""
     client, count = Client(server), 0
     while not stop.is_set():
         client.send(b"".join(pub(b"in", b"%d %d" % (name, count + at)) for at in range(PIECE)))

@@ -148,7 +148,7 @@ def trickler(program, divide, workers):
 
 
 def receive(client, most):
-    """Reads at most so many bytes, and returns how many came: none at the end."""
+    """Reads at most this number of bytes, and returns how many came: none at the end."""
     try:
         return len(client.socket.recv(most))
     except ConnectionResetError:

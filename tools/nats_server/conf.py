@@ -43,7 +43,7 @@ HASHED = "2a$"
 
 @dataclasses.dataclass(frozen=True)
 class Place:
-    """Where something stands: a file, and a line from 1."""
+    """Where something is: a file, and a line from 1."""
 
     file: str
     line: int
@@ -99,14 +99,14 @@ class Reader:
         return Place(self.file, bisect.bisect_left(self.breaks, self.at) + 1)
 
     def take(self, form):
-        """Goes on behind what has this form here, and returns the match; where nothing has, it returns None."""
+        """Goes on after what has this form here, and returns the match, or None if nothing has."""
         found = form.match(self.string, self.at)
         if found:
             self.at = found.end()
         return found
 
     def wanted(self, form, what):
-        """Goes on behind what has this form, or says what is missing."""
+        """Goes on after what has this form, or says what is missing."""
         found = self.take(form)
         if not found:
             raise Fault(self.place(), what)
@@ -185,7 +185,7 @@ class Reader:
         return Value(plain(text), place)
 
     def variable(self, name, place):
-        """Returns the value of the innermost key of this name that stands before, or of the environment."""
+        """Returns the value of the innermost key of this name before it, or of the environment."""
         if name.startswith(HASHED):
             return Value(f"${name}", place)
         for scope in reversed(self.scopes):

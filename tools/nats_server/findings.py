@@ -2,7 +2,7 @@
 
 
 class Unserved(Exception):
-    """Says what natsd hasn't, so that the user or row in which it stands is left out."""
+    """Says what natsd hasn't, so that the user or row that has it is left out."""
 
 
 class Findings:

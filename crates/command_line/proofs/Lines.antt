@@ -20,7 +20,7 @@ use Rattle.command_line.specs.declared.words.Invocation.{Invocation}
 use Rattle.command_line.specs.declared.options.LogChoice.TheVariants.{Denials}
 use Rattle.command_line.specs.declared.words.Invocation.TheVariants as invocation
 use Rattle.command_line.specs.declared.words.Task.{Task}
-use Rattle.command_line.specs.declared.words.Task.TheVariants.{Play, Check, Sets, Explain, BadKind, BadLog, Help, Version}
+use Rattle.command_line.specs.declared.words.Task.TheVariants.{Play, Check, Strict, Sets, Explain, BadKind, BadLog, BadKeepalive, Help, Version}
 use Rattle.command_line.specs.declared.words.WordsFault.{WordsFault}
 use Rattle.command_line.specs.declared.words.WordsFault.TheVariants.{WrongLine, NoMemory}
 use Rattle.std.specs.Str.{bytes_eq}
@@ -29,6 +29,7 @@ use Rattle.clap.specs.Lexer.{strip_byte}
 use Rattle.clap.specs.Words.{IsUnsignedIn}
 use Rattle.clap.specs.declared.builder.value_parser.Reading.TheVariants.{AsWritten}
 use Rattle.clap.specs.declared.parser.matches.ValueSource.TheVariants.{CommandLine, DefaultValue}
+use Rattle.command_line.specs.Files.{checked_file}
 use Rattle.command_line.specs.Options.{AreDefaults, IsOptions, IsNumberIn, default_listen, most_connections, most_history}
 use Rattle.command_line.specs.Question.{Word}
 use Rattle.command_line.specs.Words.{checking, natsd_app, kinds_of, found_in, is_mistake, names_task, on_policy, IsCheckIf, IsFound, IsInvokedBy, IsReading, IsRefusal, IsServeOrMemory, IsServing, IsTaskOrMemory, IsUnknown, IsWrongOrMemory}
@@ -67,34 +68,38 @@ has_one s names h words has below r e =
     (not (s.subcommand_negates_reqs && has) && list_any (λ a. a.required && not (is_given a.id (finished s.rules end))) s.rules)
     r last
 
--- one of four subcommands was found
+-- one of five subcommands was found
 abbrev name_of : Option (Text × List Row) → Option Text
 name_of found = option_map (λ (p : Text × List Row). p.0) found
 
-abbrev IsOneOf : Text → Text → Text → Text → Option (Text × List Row) → Type 0
-IsOneOf w x y z found = (name_of found ≡ Some w) ⊎ (name_of found ≡ Some x) ⊎ (name_of found ≡ Some y) ⊎ (name_of found ≡ Some z)
+abbrev IsOneOf : Text → Text → Text → Text → Text → Option (Text × List Row) → Type 0
+IsOneOf v w x y z found = (name_of found ≡ Some v) ⊎ (name_of found ≡ Some w) ⊎ (name_of found ≡ Some x) ⊎ (name_of found ≡ Some y) ⊎ (name_of found ≡ Some z)
 
--- the subcommand that was entered, by the tests of the four
-abbrev first_that : Bool → Bool → Bool → Bool → Shape → Shape → Shape → Shape → Option Shape
-first_that at_first at_next at_third at_last s t u v = if at_first then Some s else if at_next then Some t else if at_third then Some u else if at_last then Some v else None
+-- the subcommand that was entered, by the tests of the five
+abbrev first_that : Bool → Bool → Bool → Bool → Bool → Shape → Shape → Shape → Shape → Shape → Option Shape
+first_that at_first at_next at_third at_fourth at_last s t u v w =
+    if at_first then Some s else if at_next then Some t else if at_third then Some u else if at_fourth then Some v else if at_last then Some w else None
 
-by_tests : (at_first at_next at_third at_last : Bool) (s t u v : Shape) (words : List Text) →
-    is_some (option_map (λ (x : Shape). rows_at x words) (first_that at_first at_next at_third at_last s t u v)) ≡ true →
-    IsOneOf s.name t.name u.name v.name (option_map (λ (x : Shape). rows_at x words) (first_that at_first at_next at_third at_last s t u v))
-by_tests true at_next at_third at_last s t u v words e = inl refl
-by_tests false true at_third at_last s t u v words e = inr (inl refl)
-by_tests false false true at_last s t u v words e = inr (inr (inl refl))
-by_tests false false false true s t u v words e = inr (inr (inr refl))
-by_tests false false false false s t u v words e = absurd (cc)
+by_tests : (at_first at_next at_third at_fourth at_last : Bool) (s t u v w : Shape) (words : List Text) →
+    is_some (option_map (λ (x : Shape). rows_at x words) (first_that at_first at_next at_third at_fourth at_last s t u v w)) ≡ true →
+    IsOneOf s.name t.name u.name v.name w.name (option_map (λ (x : Shape). rows_at x words) (first_that at_first at_next at_third at_fourth at_last s t u v w))
+by_tests true at_next at_third at_fourth at_last s t u v w words e = inl refl
+by_tests false true at_third at_fourth at_last s t u v w words e = inr (inl refl)
+by_tests false false true at_fourth at_last s t u v w words e = inr (inr (inl refl))
+by_tests false false false true at_last s t u v w words e = inr (inr (inr (inl refl)))
+by_tests false false false false true s t u v w words e = inr (inr (inr (inr refl)))
+by_tests false false false false false s t u v w words e = absurd (cc)
 
-by_stop : (a : App) (s t u v : Shape) (stop : Option (Text × List Text)) → a.subs ≡ s ∷ t ∷ u ∷ v ∷ [] → is_some (entered a stop) ≡ true → IsOneOf s.name t.name u.name v.name (entered a stop)
-by_stop a s t u v None four e = absurd (cc)
-by_stop a s t u v (Some p) four e =
+by_stop : (a : App) (s t u v w : Shape) (stop : Option (Text × List Text)) → a.subs ≡ s ∷ t ∷ u ∷ v ∷ w ∷ [] → is_some (entered a stop) ≡ true →
+    IsOneOf s.name t.name u.name v.name w.name (entered a stop)
+by_stop a s t u v w None five e = absurd (cc)
+by_stop a s t u v w (Some p) five e =
     let P : List Shape → Type 0 = λ subs.
     is_some (option_map (λ (x : Shape). rows_at x p.1) (find (λ x. answers_to p.0 (label_of x)) subs)) ≡ true →
-    IsOneOf s.name t.name u.name v.name (option_map (λ (x : Shape). rows_at x p.1) (find (λ x. answers_to p.0 (label_of x)) subs)) in
-    let here : P (s ∷ t ∷ u ∷ v ∷ []) = by_tests (answers_to p.0 (label_of s)) (answers_to p.0 (label_of t)) (answers_to p.0 (label_of u)) (answers_to p.0 (label_of v)) s t u v p.1 in
-    subst P (sym four) here e
+    IsOneOf s.name t.name u.name v.name w.name (option_map (λ (x : Shape). rows_at x p.1) (find (λ x. answers_to p.0 (label_of x)) subs)) in
+    let here : P (s ∷ t ∷ u ∷ v ∷ w ∷ []) =
+    by_tests (answers_to p.0 (label_of s)) (answers_to p.0 (label_of t)) (answers_to p.0 (label_of u)) (answers_to p.0 (label_of v)) (answers_to p.0 (label_of w)) s t u v w p.1 in
+    subst P (sym five) here e
 
 abbrev whole : App
 whole = built natsd_app
@@ -102,9 +107,9 @@ whole = built natsd_app
 abbrev stop_of : List Text → Option (Text × List Text)
 stop_of words = stop_after whole.top.rules (names_of whole) (argument_words natsd_app words)
 
-named : (words : List Text) → kinds_of words ≡ [] → IsOneOf (codes "play") (codes "check") (codes "explain") (codes "serve") (found_in words)
+named : (words : List Text) → kinds_of words ≡ [] → IsOneOf (codes "play") (codes "check") (codes "explain") (codes "compare") (codes "serve") (found_in words)
 named words none =
-    by_stop whole _ _ _ _ (stop_of words) refl
+    by_stop whole _ _ _ _ _ (stop_of words) refl
     (has_one whole.top (names_of whole) nothing_held (argument_words natsd_app words) (is_some (entered whole (stop_of words))) (entered_fault whole (stop_of words)) refl none)
 
 -- ---- what clap's answers come to
@@ -118,19 +123,19 @@ abbrev default_row : Text → Text → Row
 default_row id value = record { id = id; values = value ∷ []; count = None; source = Some DefaultValue; reading = AsWritten }
 
 -- `check` has one that is not given, or is
-checks : (name : Text) → (kinds_of (name ∷ codes "check" ∷ []) ≡ []) × (found_in (name ∷ codes "check" ∷ []) ≡ Some (codes "check", default_row (codes "sets") (codes "false") ∷ []))
+checks : (name : Text) → (kinds_of (name ∷ codes "check" ∷ []) ≡ []) × (found_in (name ∷ codes "check" ∷ []) ≡ Some (codes "check", default_row (codes "sets") (codes "false") ∷ default_row (codes "strict") (codes "false") ∷ []))
 unfolding clap_on_literals
 checks name = (refl, refl)
 
 abbrev given_row : Text → Text → Row
 given_row id value = record { id = id; values = value ∷ []; count = None; source = Some CommandLine; reading = AsWritten }
 
-asks_sets : (name : Text) → (kinds_of (name ∷ codes "check" ∷ codes "--sets" ∷ []) ≡ []) × (found_in (name ∷ codes "check" ∷ codes "--sets" ∷ []) ≡ Some (codes "check", given_row (codes "sets") (codes "true") ∷ []))
+asks_sets : (name : Text) → (kinds_of (name ∷ codes "check" ∷ codes "--sets" ∷ []) ≡ []) × (found_in (name ∷ codes "check" ∷ codes "--sets" ∷ []) ≡ Some (codes "check", given_row (codes "sets") (codes "true") ∷ default_row (codes "strict") (codes "false") ∷ []))
 unfolding clap_on_literals
 asks_sets name = (refl, refl)
 
 abbrev default_rows : List Row
-default_rows = default_row (codes "listen") default_listen ∷ default_row (codes "workers") (codes "2") ∷ default_row (codes "outbox") (codes "1024") ∷ default_row (codes "history") (codes "1000000") ∷ default_row (codes "history-bytes") (codes "268435456") ∷ default_row (codes "connections") (codes "8192") ∷ default_row (codes "log") (codes "denials") ∷ []
+default_rows = default_row (codes "listen") default_listen ∷ default_row (codes "workers") (codes "2") ∷ default_row (codes "outbox") (codes "1024") ∷ default_row (codes "history") (codes "1000000") ∷ default_row (codes "history-bytes") (codes "268435456") ∷ default_row (codes "connections") (codes "8192") ∷ default_row (codes "keepalive") (codes "30") ∷ default_row (codes "tell-removed") (codes "false") ∷ default_row (codes "log") (codes "denials") ∷ []
 
 serves : (name : Text) → (kinds_of (name ∷ codes "serve" ∷ []) ≡ []) × (found_in (name ∷ codes "serve" ∷ []) ≡ Some (codes "serve", default_rows))
 unfolding clap_on_literals
@@ -151,6 +156,9 @@ megabytes = search rules
 eight_thousand : IsUnsignedIn 1 most_connections (codes "8192")
 eight_thousand = search rules
 
+thirty : IsUnsignedIn 1 32767 (codes "30")
+thirty = search rules
+
 some_same : (x y : Text) → Some x ≡ Some y → x ≡ y
 some_same x y e = cc
 
@@ -158,17 +166,19 @@ some_same x y e = cc
 is_named : (name wanted : Text) → Some name ≡ Some wanted → names_task wanted ≡ true → names_task name ≡ true
 is_named name wanted e h = ap names_task (some_same name wanted e) ∙ h
 
-names_one : (found : Text × List Row) → IsOneOf (codes "play") (codes "check") (codes "explain") (codes "serve") (Some found) → names_task found.0 ≡ true
+names_one : (found : Text × List Row) → IsOneOf (codes "play") (codes "check") (codes "explain") (codes "compare") (codes "serve") (Some found) → names_task found.0 ≡ true
 names_one found (inl e) = is_named found.0 (codes "play") e refl
 names_one found (inr (inl e)) = is_named found.0 (codes "check") e refl
 names_one found (inr (inr (inl e))) = is_named found.0 (codes "explain") e refl
-names_one found (inr (inr (inr e))) = is_named found.0 (codes "serve") e refl
+names_one found (inr (inr (inr (inl e)))) = is_named found.0 (codes "compare") e refl
+names_one found (inr (inr (inr (inr e)))) = is_named found.0 (codes "serve") e refl
 
-is_found : (found : Option (Text × List Row)) (a : Invocation) → IsOneOf (codes "play") (codes "check") (codes "explain") (codes "serve") found → IsInvokedBy found a → IsFound found a
+is_found : (found : Option (Text × List Row)) (a : Invocation) → IsOneOf (codes "play") (codes "check") (codes "explain") (codes "compare") (codes "serve") found → IsInvokedBy found a → IsFound found a
 is_found None a (inl e) h = absurd (cc)
 is_found None a (inr (inl e)) h = absurd (cc)
 is_found None a (inr (inr (inl e))) h = absurd (cc)
-is_found None a (inr (inr (inr e))) h = absurd (cc)
+is_found None a (inr (inr (inr (inl e)))) h = absurd (cc)
+is_found None a (inr (inr (inr (inr e)))) h = absurd (cc)
 is_found (Some found) a one h = (names_one found one, h)
 
 -- where the command is natsd's, and clap gives matches
@@ -191,12 +201,15 @@ by_kind : (k : ErrorKind) (kinds : Kinds) (found : Option (Text × List Row)) (r
 by_kind k kinds found (Ok (invocation.Serve options)) h p = absurd p
 by_kind k kinds found (Ok (invocation.OnFile task file)) h p = absurd p
 by_kind k kinds found (Ok (invocation.Split options)) h p = absurd p
+by_kind k kinds found (Ok (invocation.Compare options)) h p = absurd p
 by_kind k kinds found (Ok (invocation.Task Play)) h p = absurd p
 by_kind k kinds found (Ok (invocation.Task Check)) h p = absurd p
+by_kind k kinds found (Ok (invocation.Task Strict)) h p = absurd p
 by_kind k kinds found (Ok (invocation.Task Sets)) h p = absurd p
 by_kind k kinds found (Ok (invocation.Task (Explain question))) h p = absurd p
 by_kind k kinds found (Ok (invocation.Task BadKind)) h p = absurd p
 by_kind k kinds found (Ok (invocation.Task BadLog)) h p = absurd p
+by_kind k kinds found (Ok (invocation.Task BadKeepalive)) h p = absurd p
 by_kind k kinds found (Ok (invocation.Task (Help text))) h p = inr (among k DisplayHelp kinds (λ e. absurd (cc)) h p)
 by_kind k kinds found (Ok (invocation.Task (Version text))) h p = inr (among k DisplayVersion kinds (λ e. absurd (cc)) h p)
 by_kind k kinds found (Err (WrongLine text)) h p = (p.0, among k p.0 kinds (no_mistake p.0 p.2) h p.1, p.2)
@@ -215,12 +228,15 @@ refused_by : (kinds : Kinds) (a : Invocation) → (IsAmong DisplayHelp kinds →
 refused_by kinds (invocation.Serve options) help version h = absurd h
 refused_by kinds (invocation.OnFile task file) help version h = absurd h
 refused_by kinds (invocation.Split options) help version h = absurd h
+refused_by kinds (invocation.Compare options) help version h = absurd h
 refused_by kinds (invocation.Task Play) help version h = absurd h
 refused_by kinds (invocation.Task Check) help version h = absurd h
+refused_by kinds (invocation.Task Strict) help version h = absurd h
 refused_by kinds (invocation.Task Sets) help version h = absurd h
 refused_by kinds (invocation.Task (Explain question)) help version h = absurd h
 refused_by kinds (invocation.Task BadKind) help version h = absurd h
 refused_by kinds (invocation.Task BadLog) help version h = absurd h
+refused_by kinds (invocation.Task BadKeepalive) help version h = absurd h
 refused_by kinds (invocation.Task (Help text)) help version h = help h
 refused_by kinds (invocation.Task (Version text)) help version h = version h
 
@@ -241,13 +257,13 @@ no_file : (task : Task) (a : Invocation) (file : Option Word) → a ≡ on_polic
 no_file task a None e h = e
 no_file task a (Some file) e h = absurd (cc)
 
-check_if : (task : Task) (rows : List Row) (r : Result Invocation WordsFault) → checking rows ≡ task → first_of (codes "policy") rows ≡ None → first_of (codes "split") rows ≡ None → IsReading [] (Some (codes "check", rows)) r → IsTaskOrMemory task r
-check_if task rows (Ok a) asked free whole (inl h) =
-    let checked = no_parts rows _ a whole h.1.1 in
+check_if : (task : Task) (rows : List Row) (r : Result Invocation WordsFault) → checking rows ≡ task → checked_file rows ≡ None → first_of (codes "split") rows ≡ None → IsReading [] (Some (codes "check", rows)) r → IsTaskOrMemory task r
+check_if task rows (Ok a) asked free no_folder (inl h) =
+    let checked = no_parts rows _ a no_folder h.1.1 in
     no_file task a checked.0 (checked.1 ∙ ap (λ (t : Task). on_policy t checked.0) asked) (checked.2 ∙ free)
-check_if task rows (Ok a) asked free whole (inr h) = absurd (none_refused a h)
-check_if task rows (Err (WrongLine text)) asked free whole h = absurd h.1
-check_if task rows (Err NoMemory) asked free whole h = tt
+check_if task rows (Ok a) asked free no_folder (inr h) = absurd (none_refused a h)
+check_if task rows (Err (WrongLine text)) asked free no_folder h = absurd h.1
+check_if task rows (Err NoMemory) asked free no_folder h = tt
 
 -- each number is the one of its default's text
 number_is : (least most n m : ℕ) (t : Text) → IsNumberIn least most (Some t) n → IsUnsignedIn least most t → digits_value 10 (without_leading_plus t) ≡ m → n ≡ m
@@ -265,14 +281,20 @@ defaults o h = record {
   history = number_is 2 most_history o.history 1000000 (codes "1000000") h.history million refl;
   history_bytes = number_is 1048576 most_history o.history_bytes 268435456 (codes "268435456") h.history_bytes megabytes refl;
   connections = number_is 1 most_connections o.connections 8192 (codes "8192") h.connections eight_thousand refl;
+  keepalive = h.keepalive.1;
+  tells_removed = h.tells_removed;
   log = some_same_choice _ _ h.log;
+  stats = h.stats;
+  stats_file = h.stats_file;
 }
 
 is_serving : (a : Invocation) → IsServing default_rows a → IsServeOrMemory AreDefaults (Ok a)
 is_serving (invocation.Serve options) h = defaults options h
-is_serving (invocation.Task task) h = let named : Some Denials ≡ None = h.1 in absurd (cc)
+is_serving (invocation.Task task) (inl h) = let named : Some Denials ≡ None = h.1 in absurd (cc)
+is_serving (invocation.Task task) (inr h) = absurd (h.1 thirty)
 is_serving (invocation.OnFile task file) h = h
 is_serving (invocation.Split options) h = h
+is_serving (invocation.Compare options) h = h
 
 serve_if : (r : Result Invocation WordsFault) → IsReading [] (Some (codes "serve", default_rows)) r → IsServeOrMemory AreDefaults r
 serve_if (Ok a) (inl h) = is_serving a h.1.1
@@ -296,11 +318,11 @@ play_is_right words name r e p = play_if [] r (read_as words _ _ _ r e (plays na
 
 -- the words of `natsd check`
 pub check_is_right : (words : List Text) (name : Text) (r : Result Invocation WordsFault) → words ≡ name ∷ codes "check" ∷ [] → IsReading (kinds_of words) (found_in words) r → IsTaskOrMemory Check r
-check_is_right words name r e p = check_if Check (default_row (codes "sets") (codes "false") ∷ []) r refl refl refl (read_as words _ _ _ r e (checks name).0 (checks name).1 p)
+check_is_right words name r e p = check_if Check (default_row (codes "sets") (codes "false") ∷ default_row (codes "strict") (codes "false") ∷ []) r refl refl refl (read_as words _ _ _ r e (checks name).0 (checks name).1 p)
 
 -- the words of `natsd check --sets`
 pub sets_is_right : (words : List Text) (name : Text) (r : Result Invocation WordsFault) → words ≡ name ∷ codes "check" ∷ codes "--sets" ∷ [] → IsReading (kinds_of words) (found_in words) r → IsTaskOrMemory Sets r
-sets_is_right words name r e p = check_if Sets (given_row (codes "sets") (codes "true") ∷ []) r refl refl refl (read_as words _ _ _ r e (asks_sets name).0 (asks_sets name).1 p)
+sets_is_right words name r e p = check_if Sets (given_row (codes "sets") (codes "true") ∷ default_row (codes "strict") (codes "false") ∷ []) r refl refl refl (read_as words _ _ _ r e (asks_sets name).0 (asks_sets name).1 p)
 
 -- the words of `natsd serve`
 pub serve_is_right : (words : List Text) (name : Text) (r : Result Invocation WordsFault) → words ≡ name ∷ codes "serve" ∷ [] → IsReading (kinds_of words) (found_in words) r → IsServeOrMemory AreDefaults r
@@ -311,10 +333,11 @@ serve_is_right words name r e p = serve_if r (read_as words _ _ _ r e (serves na
 abbrev stray : Kinds
 stray = UnknownArgument ∷ InvalidSubcommand ∷ []
 
-other_word : (name : Text) (c : ℕ) (cs : Text) → (c == 45) ≡ false → bytes_eq (codes "play") (c ∷ cs) ≡ false → bytes_eq (codes "check") (c ∷ cs) ≡ false → bytes_eq (codes "explain") (c ∷ cs) ≡ false → bytes_eq (codes "serve") (c ∷ cs) ≡ false →
+other_word : (name : Text) (c : ℕ) (cs : Text) → (c == 45) ≡ false → bytes_eq (codes "play") (c ∷ cs) ≡ false → bytes_eq (codes "check") (c ∷ cs) ≡ false → bytes_eq (codes "explain") (c ∷ cs) ≡ false → bytes_eq (codes "compare") (c ∷ cs) ≡ false →
+    bytes_eq (codes "serve") (c ∷ cs) ≡ false →
     kinds_of (name ∷ (c ∷ cs) ∷ []) ≡ stray
 unfolding clap_on_literals
-other_word name c cs hyphen play check explain serve = rw (play, check, explain, serve, hyphen) (rw hyphen refl)
+other_word name c cs hyphen play check explain compare serve = rw (play, check, explain, compare, serve, hyphen) (rw hyphen refl)
 
 no_hyphen : (c : ℕ) (cs : Text) → strip_byte 45 (c ∷ cs) ≡ None → (c == 45) ≡ false
 no_hyphen c cs e = by_test (c == 45) e
@@ -326,7 +349,7 @@ no_hyphen c cs e = by_test (c == 45) e
 others : (name word : Text) → IsUnknown word → kinds_of (name ∷ word ∷ []) ≡ stray
 unfolding clap_on_literals
 others name [] h = refl
-others name (c ∷ cs) h = other_word name c cs (no_hyphen c cs h.0) h.1 h.2 h.3 h.4
+others name (c ∷ cs) h = other_word name c cs (no_hyphen c cs h.0) h.1 h.2 h.3 h.4 h.5
 
 nothing : (name : Text) → kinds_of (name ∷ []) ≡ MissingSubcommand ∷ []
 unfolding clap_on_literals

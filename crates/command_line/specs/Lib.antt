@@ -1,3 +1,5 @@
+pub mod Comparing
+pub mod Files
 pub mod Options
 pub mod Question
 pub mod Words

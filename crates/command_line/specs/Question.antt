@@ -1,6 +1,6 @@
 -- The question that is asked with `natsd explain` (docs/POLICY.md, "Explaining a verdict"), in the words of clap's contracts.
 use Rattle.std.specs.Global.{Global}
-use Rattle.std.specs.Prelude.{◌≡◌, List, String, [], codes, if◌then◌else◌, Option, Some, None, option_map, unwrap_or, string_bytes, true}
+use Rattle.std.specs.Prelude.{◌≡◌, List, String, codes, if◌then◌else◌, Option, Some, None, option_map, string_bytes, true}
 use Rattle.std.specs.Str.{bytes_eq}
 use Rattle.clap.specs.Words.{App, Row, Rule, Text, first_of, new_app, new_rule, with_rule}
 use Rattle.command_line.specs.Options.{policy_rule}

@@ -1,10 +1,16 @@
-//! What the words of a command line ask for (docs/SCRIPT.md, "Statuses"). It opens no file and does nothing of it.
+//! What the words of a command line ask for (docs/SCRIPT.md, "Statuses"). It does nothing of it, and knows no file and no
+//! policy.
 #![tactic(auto)]
 
+mod comparing;
+mod files;
+mod keepalive;
 mod options;
 mod question;
+mod stats;
 mod words;
 
+pub use comparing::CompareOptions;
 pub use options::{LogChoice, ServeOptions, SplitOptions};
 pub use question::{Question, QuestionKind};
 pub use words::{Invocation, Task, WordsFault, read_words};

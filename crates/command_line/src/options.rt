@@ -1,8 +1,11 @@
 // The options of `natsd serve` (docs/OPERATING.md, "Options"), and the policy's file of other commands.
 ghost use Rattle.std.specs.Prelude.{◌≡◌, ◌≤◌, false, IfOk, codes, option_map, string_bytes};
 ghost use Rattle.clap.specs.Words.{first_of, found_of, new_app, one_of, rows_of, rule_of};
-ghost use Rattle.command_line.specs.Options.{check_app, connections_rule, flag_rule, history_bytes_rule, history_rule, is_set, listen_rule, log_named, log_rule, number_rule, outbox_rule, policy_rule, serve_app, text_rule, workers_rule, word_at, IsLocalApp, IsNumberIn, IsOptionsIf};
+ghost use Rattle.command_line.specs.Options.{check_app, connections_rule, flag_rule, history_bytes_rule, history_rule, is_set, listen_rule, log_named, log_rule, number_rule, outbox_rule, policy_rule, serve_app, text_rule, workers_rule, word_at, AreChosen, IsLocalApp, IsNumberIn, IsOptions};
 
+use crate::files::file_word;
+use crate::keepalive::keepalive_option;
+use crate::stats::{period_in, stats_file_option, stats_option};
 use clap::builder::ValueParser;
 use clap::{Arg, ArgAction, ArgMatches, Command};
 use std::alloc::{AllocError, Global};
@@ -25,8 +28,23 @@ pub struct ServeOptions {
     pub history_bytes: u64,
     /// How many connections may be open, at least 1.
     pub connections: u64,
+    /// For how many seconds a client may be silent before the system probes it, 1 to 32,767, or 0 if it never does.
+    pub keepalive: u64,
+    /// Whether clients are told of their subscriptions that a new policy removes.
+    pub tells_removed: bool,
     /// What is told on standard error of clients and policies.
     pub log: LogChoice,
+    /// After how many seconds a line on standard error tells what is counted, 1 to 86,400, if one does.
+    pub stats: Option<u64>,
+    /// The file in which the same is told as metrics, if one is named.
+    pub stats_file: Option<String>,
+}
+
+/// Which of the words that a name chooses from were given.
+#[derive(Clone, Copy, Debug)]
+pub struct Choices {
+    pub log: LogChoice,
+    pub keepalive: u64,
 }
 
 /// What `natsd check --split` is started with.
@@ -62,7 +80,12 @@ const LEAST_BYTES: u64 = 1_048_576;
 const LEAST_CONNECTIONS: u64 = 1;
 
 /// An option that takes a text.
-fn text_option<'a>(alloc: Global, id: &'a str, shown_as: &'a str, help: &'a str) -> Arg<'a>
+pub(crate) fn text_option<'a>(
+    alloc: Global,
+    id: &'a str,
+    shown_as: &'a str,
+    help: &'a str,
+) -> Arg<'a>
     ensures rule { rule_of result ≡ text_rule id.entry.now }
     ensures local { result.global ≡ false }
 {
@@ -74,13 +97,7 @@ fn listen_option<'a>(alloc: Global) -> Arg<'a>
     ensures rule { rule_of result ≡ listen_rule }
     ensures local { result.global ≡ false }
 {
-    text_option(
-        alloc,
-        "listen",
-        "ADDR",
-        "Where clients connect, an address and a port",
-    )
-    .default_value(LISTEN)
+    text_option(alloc, "listen", "ADDR", "Where clients connect").default_value(LISTEN)
 }
 
 /// An option that takes a number within bounds.
@@ -109,7 +126,7 @@ fn policy_option<'a>(alloc: Global) -> Arg<'a>
         alloc,
         "policy",
         "FILE",
-        "The policy, read again when it changes; without it, policies come as frames on standard input",
+        "The policy's file; without it, standard input",
     )
 }
 
@@ -121,7 +138,7 @@ fn workers_option<'a>(alloc: Global) -> Arg<'a>
     number_option(
         alloc,
         "workers",
-        "How many threads serve clients, 1 to 64",
+        "Threads that serve clients, 1 to 64",
         1,
         MOST_WORKERS,
         "2",
@@ -136,7 +153,7 @@ fn outbox_option<'a>(alloc: Global) -> Arg<'a>
     number_option(
         alloc,
         "outbox",
-        "How many deliveries may wait for a client, 1 to 65536",
+        "Most waiting deliveries, 1 to 65536",
         1,
         MOST_OUTBOX,
         "1024",
@@ -151,7 +168,7 @@ fn history_option<'a>(alloc: Global) -> Arg<'a>
     number_option(
         alloc,
         "history",
-        "How many entries the history holds, at least 2",
+        "Entries of history, 2 or more",
         LEAST_HISTORY,
         u64::MAX,
         "1000000",
@@ -166,7 +183,7 @@ fn history_bytes_option<'a>(alloc: Global) -> Arg<'a>
     number_option(
         alloc,
         "history-bytes",
-        "How many bytes its entries may keep, at least 1048576",
+        "Their bytes, 1048576 or more",
         LEAST_BYTES,
         u64::MAX,
         "268435456",
@@ -181,10 +198,22 @@ fn connections_option<'a>(alloc: Global) -> Arg<'a>
     number_option(
         alloc,
         "connections",
-        "How many connections may be open, at least 1",
+        "Most open connections, 1 or more",
         LEAST_CONNECTIONS,
         u64::MAX,
         "8192",
+    )
+}
+
+/// Whether clients are told what a new policy removes.
+fn tell_removed_option<'a>(alloc: Global) -> Arg<'a>
+    ensures rule { rule_of result ≡ flag_rule (codes "tell-removed") }
+    ensures local { result.global ≡ false }
+{
+    flag(
+        alloc,
+        "tell-removed",
+        "Tells clients of subscriptions that a reload ends",
     )
 }
 
@@ -193,13 +222,7 @@ fn log_option<'a>(alloc: Global) -> Arg<'a>
     ensures rule { rule_of result ≡ log_rule }
     ensures local { result.global ≡ false }
 {
-    text_option(
-        alloc,
-        "log",
-        "WHAT",
-        "What is told on standard error of clients and policies: none, denials or all",
-    )
-    .default_value("denials")
+    text_option(alloc, "log", "WHAT", "The log: none, denials or all").default_value("denials")
 }
 
 /// The file of the policy that `check` and `explain` take.
@@ -211,12 +234,12 @@ pub(crate) fn policy_file_option<'a>(alloc: Global) -> Arg<'a>
         alloc,
         "policy",
         "FILE",
-        "The policy; without it, the policy is read on standard input",
+        "The policy; without it, or with -, the policy is read on standard input",
     )
 }
 
 /// An option that is given or not, without a value.
-fn flag<'a>(alloc: Global, id: &'a str, help: &'a str) -> Arg<'a>
+pub(crate) fn flag<'a>(alloc: Global, id: &'a str, help: &'a str) -> Arg<'a>
     ensures rule { rule_of result ≡ flag_rule id.entry.now }
     ensures local { result.global ≡ false }
 {
@@ -248,7 +271,13 @@ pub fn check_command<'a>(alloc: Global) -> Result<Command<'a>, AllocError>
         "sets",
         "Prints in place of that which accounts exchange messages, each set of them on a line",
     ))?
-    .arg(split_option(alloc))
+    .arg(split_option(alloc))?
+    .arg(file_word(alloc))?
+    .arg(flag(
+        alloc,
+        "strict",
+        "Ends with status 1 where a warning is told",
+    ))
 }
 
 /// The folder for the parts of the policy that `check` takes.
@@ -281,7 +310,11 @@ pub fn serve_command<'a>(alloc: Global) -> Result<Command<'a>, AllocError>
     .arg(history_option(alloc))?
     .arg(history_bytes_option(alloc))?
     .arg(connections_option(alloc))?
-    .arg(log_option(alloc))
+    .arg(keepalive_option(alloc))?
+    .arg(tell_removed_option(alloc))?
+    .arg(log_option(alloc))?
+    .arg(stats_option(alloc))?
+    .arg(stats_file_option(alloc))
 }
 
 /// The text that was given for an option, or its default.
@@ -309,7 +342,7 @@ pub(crate) fn is_set(matches: &ArgMatches<'_>, id: &str) -> bool
 
 /// The number that was given for an option, or its default. Clap lets no other through than one within the bounds.
 #[tactic(auto, using(crate::proofs::Rows::one_by_rows))]
-fn number_in(matches: &ArgMatches<'_>, id: &str, least: u64, most: u64) -> u64
+pub(crate) fn number_in(matches: &ArgMatches<'_>, id: &str, least: u64, most: u64) -> u64
     requires { least ≤ most }
     ensures { IsNumberIn least most (one_of id.now (rows_of (found_of matches.now))) result }
 {
@@ -321,7 +354,7 @@ fn number_in(matches: &ArgMatches<'_>, id: &str, least: u64, most: u64) -> u64
 
 /// What is to be told, by the option `log` or its default, if its word is one that is known.
 #[tactic(auto, using(crate::proofs::Rows::first_by_rows))]
-fn log_in(matches: &ArgMatches<'_>) -> Option<LogChoice>
+pub(crate) fn log_in(matches: &ArgMatches<'_>) -> Option<LogChoice>
     ensures { result ≡ log_named (word_at (codes "log") (rows_of (found_of matches.now))) }
 {
     log_named(matches.get_str("log").unwrap_or(""))
@@ -339,22 +372,21 @@ fn log_named(word: &str) -> Option<LogChoice>
     }
 }
 
-/// What the options of `natsd serve` say, or nothing where the word of `log` isn't known.
+/// What the options of `natsd serve` say, with the choices among them.
 pub fn options_of(
     alloc: Global,
     matches: &ArgMatches<'_>,
-) -> Result<Option<ServeOptions>, AllocError>
-    ensures { IfOk result (IsOptionsIf (rows_of (found_of matches.now))) }
+    choices: Choices,
+) -> Result<ServeOptions, AllocError>
+    ensures { IfOk result (λ options. AreChosen (rows_of (found_of matches.now)) choices → IsOptions (rows_of (found_of matches.now)) options) }
 {
-    let Some(log) = log_in(matches) else {
-        return Ok(None);
-    };
     let policy = text_in(alloc, matches, "policy")?;
+    let stats_file = text_in(alloc, matches, "stats-file")?;
     let listen = match text_in(alloc, matches, "listen")? {
         Some(listen) => listen,
         None => String::from_str(alloc, LISTEN)?,
     };
-    Ok(Some(ServeOptions {
+    Ok(ServeOptions {
         policy,
         listen,
         workers: number_in(matches, "workers", 1, MOST_WORKERS),
@@ -362,6 +394,10 @@ pub fn options_of(
         history: number_in(matches, "history", LEAST_HISTORY, u64::MAX),
         history_bytes: number_in(matches, "history-bytes", LEAST_BYTES, u64::MAX),
         connections: number_in(matches, "connections", LEAST_CONNECTIONS, u64::MAX),
-        log,
-    }))
+        keepalive: choices.keepalive,
+        tells_removed: is_set(matches, "tell-removed"),
+        log: choices.log,
+        stats: period_in(matches),
+        stats_file,
+    })
 }

@@ -43,7 +43,7 @@ fn word<'a>(alloc: Global, id: &'a str, shown_as: &'a str, help: &'a str) -> Arg
 }
 
 /// A word that has to be there.
-fn wanted<'a>(alloc: Global, id: &'a str, shown_as: &'a str, help: &'a str) -> Arg<'a>
+pub(crate) fn wanted<'a>(alloc: Global, id: &'a str, shown_as: &'a str, help: &'a str) -> Arg<'a>
     ensures rule { rule_of result ≡ wanted_rule id.entry.now }
     ensures local { result.global ≡ false }
 {
@@ -119,7 +119,11 @@ pub fn question_of(alloc: Global, matches: &ArgMatches<'_>) -> Result<Option<Que
 
 /// The text that was given for a word that has to be there.
 #[tactic(auto, using(crate::proofs::Rows::first_by_rows))]
-fn word_in(alloc: Global, matches: &ArgMatches<'_>, id: &str) -> Result<String, AllocError>
+pub(crate) fn word_in(
+    alloc: Global,
+    matches: &ArgMatches<'_>,
+    id: &str,
+) -> Result<String, AllocError>
     ensures { IfOk result (λ text. string_bytes text ≡ word_at id.now (rows_of (found_of matches.now))) }
 {
     String::from_str(alloc, matches.get_str(id).unwrap_or(""))

@@ -3,8 +3,12 @@ ghost use Rattle.std.specs.Prelude.{◌≡◌, ◌∷◌, [], ℕ, List, IfOk, c
 ghost use Rattle.clap.specs.Words.{app_of, kind_of};
 ghost use Rattle.clap.specs.declared.error.kind.ErrorKind.TheVariants.{OutOfMemory};
 
+use crate::comparing::{CompareOptions, compare_command, compared_in};
+use crate::files::{checked_file, policy_file};
+use crate::keepalive::keepalive_in;
 use crate::options::{
-    ServeOptions, SplitOptions, check_command, is_set, options_of, serve_command, text_in,
+    Choices, ServeOptions, SplitOptions, check_command, is_set, log_in, options_of, serve_command,
+    text_in,
 };
 use crate::question::{Question, explain_command, question_of};
 use clap::error::ErrorKind;
@@ -21,6 +25,8 @@ pub enum Invocation {
     OnFile(Task, String),
     /// To write the parts of a policy, each as a policy of its own.
     Split(SplitOptions),
+    /// To compare two policies.
+    Compare(CompareOptions),
     /// To serve clients over sockets.
     Serve(ServeOptions),
 }
@@ -32,6 +38,8 @@ pub enum Task {
     Play,
     /// To check a policy.
     Check,
+    /// To check a policy, with status 1 where a warning is told.
+    Strict,
     /// To say which accounts of a policy exchange messages.
     Sets,
     /// To explain what a policy says to a question.
@@ -40,6 +48,8 @@ pub enum Task {
     BadKind,
     /// To say that the word of the option `log` isn't known.
     BadLog,
+    /// To say that the word of the option `keepalive` is neither `off` nor a number of seconds.
+    BadKeepalive,
     /// To show this help.
     Help(String),
     /// To show this version.
@@ -82,14 +92,15 @@ fn natsd_command<'a>(alloc: Global) -> Result<Command<'a>, AllocError>
         ))?
         .subcommand(check_command(alloc)?)?
         .subcommand(explain_command(alloc)?)?
+        .subcommand(compare_command(alloc)?)?
         .subcommand(serve_command(alloc)?)
 }
 
 ghost use Rattle.clap.specs.Words.{found_of, rows_of, subcommand_rows_of};
 ghost use Rattle.std.specs.Prelude.{if◌then◌else◌};
-ghost use Rattle.command_line.specs.declared.words.Task.TheVariants.{Sets, Check};
+ghost use Rattle.command_line.specs.declared.words.Task.TheVariants.{Check, Sets, Strict};
 ghost use Rattle.command_line.specs.Options.{AreDefaults};
-ghost use Rattle.command_line.specs.Words.{found_in, kinds_of, on_policy, IsAskedBy, IsCheck, IsInvokedAs, IsInvokedBy, IsReading, IsRefusal, IsServeOrMemory, IsServing, IsTaskOrMemory, IsUnknown, IsWrongOrMemory};
+ghost use Rattle.command_line.specs.Words.{checking, found_in, kinds_of, on_policy, IsAskedBy, IsCheck, IsComparing, IsInvokedAs, IsInvokedBy, IsReading, IsRefusal, IsServeOrMemory, IsServing, IsTaskOrMemory, IsUnknown, IsWrongOrMemory};
 
 /// What is made of a line for which clap gives no matches.
 fn read_refusal(alloc: Global, error: &Error) -> Result<Invocation, WordsFault>
@@ -105,7 +116,7 @@ fn read_refusal(alloc: Global, error: &Error) -> Result<Invocation, WordsFault>
     }
 }
 
-/// What a subcommand asks for, by its name and its arguments: `serve`, `explain`, `check`, or else `play`.
+/// What a subcommand asks for, by its name and its arguments: `serve`, `explain`, `check`, `compare`, or else `play`.
 fn invoked_as(alloc: Global, name: &str, options: &ArgMatches<'_>) -> Result<Invocation, AllocError>
     ensures { IfOk result (IsInvokedAs name.now (rows_of (found_of options.now))) }
 {
@@ -121,6 +132,10 @@ fn invoked_as(alloc: Global, name: &str, options: &ArgMatches<'_>) -> Result<Inv
         let checked = checked_by(alloc, options)?;
         return Ok(checked);
     }
+    if name == "compare" {
+        let compared = compared_by(alloc, options)?;
+        return Ok(compared);
+    }
     Ok(Invocation::Task(Task::Play))
 }
 
@@ -128,28 +143,52 @@ fn invoked_as(alloc: Global, name: &str, options: &ArgMatches<'_>) -> Result<Inv
 fn served_by(alloc: Global, options: &ArgMatches<'_>) -> Result<Invocation, AllocError>
     ensures { IfOk result (IsServing (rows_of (found_of options.now))) }
 {
-    match options_of(alloc, options)? {
-        None => Ok(Invocation::Task(Task::BadLog)),
-        Some(options) => Ok(Invocation::Serve(options)),
-    }
+    let Some(log) = log_in(options) else {
+        return Ok(Invocation::Task(Task::BadLog));
+    };
+    let Some(keepalive) = keepalive_in(options) else {
+        return Ok(Invocation::Task(Task::BadKeepalive));
+    };
+    let served = options_of(alloc, options, Choices { log, keepalive })?;
+    Ok(Invocation::Serve(served))
+}
+
+/// What `compare` asks for, by its words.
+fn compared_by(alloc: Global, options: &ArgMatches<'_>) -> Result<Invocation, AllocError>
+    ensures { IfOk result (IsComparing (rows_of (found_of options.now))) }
+{
+    Ok(Invocation::Compare(compared_in(alloc, options)?))
 }
 
 /// What `check` asks for, by its options.
 fn checked_by(alloc: Global, options: &ArgMatches<'_>) -> Result<Invocation, AllocError>
     ensures { IfOk result (IsCheck (rows_of (found_of options.now))) }
 {
-    let policy = text_in(alloc, options, "policy")?;
+    let policy = checked_file(alloc, options)?;
     match text_in(alloc, options, "split")? {
-        None => Ok(on_policy(checking(is_set(options, "sets")), policy)),
+        None => Ok(on_policy(checked_by_flags(options), policy)),
         Some(folder) => Ok(Invocation::Split(SplitOptions { folder, policy })),
     }
 }
 
-/// What is asked of a policy, by whether its sets are.
-fn checking(sets: bool) -> Task
-    ensures { result ≡ (if sets then Sets else Check) }
+/// What is asked of a policy, by the options without a value.
+fn checked_by_flags(options: &ArgMatches<'_>) -> Task
+    ensures { result ≡ checking (rows_of (found_of options.now)) }
 {
-    if sets { Task::Sets } else { Task::Check }
+    checking(is_set(options, "sets"), is_set(options, "strict"))
+}
+
+/// What is asked of a policy, by whether its sets are, or that no warning is told.
+fn checking(sets: bool, strict: bool) -> Task
+    ensures { result ≡ (if sets then Sets else if strict then Strict else Check) }
+{
+    if sets {
+        Task::Sets
+    } else if strict {
+        Task::Strict
+    } else {
+        Task::Check
+    }
 }
 
 /// What `explain` asks for, by its arguments.
@@ -159,7 +198,7 @@ fn asked_by(alloc: Global, options: &ArgMatches<'_>) -> Result<Invocation, Alloc
     match question_of(alloc, options)? {
         None => Ok(Invocation::Task(Task::BadKind)),
         Some(question) => {
-            let policy = text_in(alloc, options, "policy")?;
+            let policy = policy_file(alloc, options)?;
             Ok(on_policy(Task::Explain(question), policy))
         }
     }
@@ -188,12 +227,12 @@ fn invoked_by(alloc: Global, matches: &ArgMatches<'_>) -> Result<Invocation, All
 /// What the words of a command line ask for. The first is the program's name.
 ///
 /// The words are judged by clap: `play` asks for a script to be played, `check` for a policy to be checked, `explain` for
-/// what a policy says to a question, `serve` for clients to be served by its options, `--help`, `-h` and `play --help` for
+/// what a policy says to a question, `compare` for two policies to be compared, `serve` for clients to be served by its options, `--help`, `-h` and `play --help` for
 /// help, `--version` for the version. `check` and `explain` read the policy on standard input, or in the file that their
-/// option `--policy` names; `check` with the option `--sets` asks which accounts exchange messages, and with `--split` for a
-/// policy of each set of them. Where they have the right number, the words of `explain` are a question; one of another kind
+/// option `--policy` names, `check` also in that of its word; `check` with the option `--sets` asks which accounts exchange
+/// messages, with `--split` for a policy of each set of them, and with `--strict` for status 1 where a warning is told. Where they have the right number, the words of `explain` are a question; one of another kind
 /// than `publish`, `subscribe`, `delivery` and `path` asks for that to be said, and so does another word of `serve`'s option
-/// `--log` than `none`, `denials` and `all`.
+/// `--log` than `none`, `denials` and `all`, or of `--keepalive` than `off` and 1 to 32,767.
 /// `WrongLine` comes with clap's text where the line is another, such as one with no word behind the name, with one
 /// that is none of these or with a number out of its bounds; `NoMemory` where memory could not be had. No clause says
 /// what the texts are.

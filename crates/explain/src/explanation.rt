@@ -47,8 +47,8 @@ impl Explanation {
     }
 }
 
-/// Appends what a verdict says.
-fn write_verdict(out: &mut Vec<u8>, verdict: Verdict) -> Result<(), NoMemory>
+/// Appends what a verdict says, without the entry's text. `NoMemory` where memory could not be had.
+pub fn write_verdict(out: &mut Vec<u8>, verdict: Verdict) -> Result<(), NoMemory>
     ensures { OnOk result (out.new.items ≡ out.old.items ++ verdict_words verdict) }
 {
     match verdict {

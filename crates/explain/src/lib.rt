@@ -13,7 +13,7 @@ mod reason;
 mod view;
 
 pub use asking::{explain_delivery, explain_publish, explain_subscribe};
-pub use explanation::{Explanation, Uncovered};
+pub use explanation::{Explanation, Uncovered, write_verdict};
 pub use fault::ExplainFault;
 pub use laws::shows_what_entries_lack;
 pub use lines::path_lines;

@@ -5,12 +5,12 @@ use Rattle.command_line.specs.declared.options.LogChoice.{LogChoice}
 use Rattle.command_line.specs.declared.options.LogChoice.TheVariants as choice
 use Rattle.command_line.specs.declared.question.Question.{Question}
 use Rattle.command_line.specs.declared.words.Task.{Task}
-use Rattle.command_line.specs.declared.words.Task.TheVariants.{Play, Check, Sets, Explain, BadKind, BadLog, Help, Version}
+use Rattle.command_line.specs.declared.words.Task.TheVariants.{Play, Check, Strict, Sets, Explain, BadKind, BadLog, BadKeepalive, Help, Version}
 use Rattle.command_line.specs.Question.{Word}
 use Rattle.explain.specs.places.Place.{IsDecidingPlace}
 use Rattle.policy_doc.specs.declared.document.PolicyDoc.{PolicyDoc}
-use Rattle.server_log.specs.declared.lines.notice.LogLevel.{LogLevel}
-use Rattle.server_log.specs.declared.lines.notice.LogLevel.TheVariants as level
+use Rattle.server_log.specs.declared.level.LogLevel.{LogLevel}
+use Rattle.server_log.specs.declared.level.LogLevel.TheVariants as level
 
 abbrev pub level_of : LogChoice → LogLevel
 level_of choice.None = level.None
@@ -21,10 +21,12 @@ level_of choice.All = level.All
 abbrev pub question_of : Task → Option Question
 question_of Play = None
 question_of Check = None
+question_of Strict = None
 question_of Sets = None
 question_of (Explain question) = Some question
 question_of BadKind = None
 question_of BadLog = None
+question_of BadKeepalive = None
 question_of (Help text) = None
 question_of (Version text) = None
 

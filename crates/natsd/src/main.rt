@@ -1,28 +1,36 @@
-//! natsd: the routing core of a multi-tenant NATS server. What it does stands in the crates below; here are its command line,
-//! its files and its threads.
+//! The program: its command line, its files and its threads. It knows no table of the hub, and decides nothing of a message.
 #![tactic(auto)]
 
 ghost use Rattle.std.specs.Prelude.{◌≡◌, Err};
 ghost use Rattle.command_line.specs.Options.{AreServable};
+ghost use Rattle.natsd.specs.Status.{IsEndOf};
+ghost use Rattle.tasks.specs.declared.status.Ran.TheVariants as came;
 
+mod build;
+mod checked;
+mod comparing;
 mod notes;
 mod on_file;
 mod parting;
 mod policy_input;
 mod serve;
+mod stats_file;
 mod telling;
 
+use build::{build_of, read_build};
 use command_line::ServeOptions;
-use devices::{ReadSource, WriteSink};
+use comparing::compare;
+use devices::{ReadSource, Sink, WriteSink};
 use notes::tell_of_input;
 use on_file::run_on_file;
 use parting::split;
 use policy_input::PolicyInput;
-use serve::serve_clients;
+use serve::{serve_clients, stats_of};
 use server::Outputs;
 use server::policy_source::{Frames, WatchedFile};
 use server_log::ServerLog;
 use server_log::prints::{Prints, print_all};
+use stats_file::write_metrics;
 use std::hash::RandomState;
 use std::io::Read;
 use std::process::ExitCode;
@@ -41,35 +49,46 @@ fn main(rt: HostRuntime) -> ExitCode {
         Ok(status) => return ExitCode::from(status),
         Err(options) => options,
     };
+    let told_of_build = read_build(&rt).unwrap_or(Vec::new(rt.alloc()));
+    let build = build_of(told_of_build.as_slice());
     let source = ReadSource::new(input.into_reader());
     let (prints, errors) = (Prints::new(rt.alloc()), Prints::with_room(rt.alloc(), ROOM));
+    let metrics = Prints::with_room(rt.alloc(), ROOM);
     let (mut stdout, mut stderr) = (rt.stdout(), rt.stderr());
-    let (rt, options, prints, told) = (&rt, &options, &prints, &errors);
+    let (rt, options, prints, told, metrics) = (&rt, &options, &prints, &errors, &metrics);
     let (writer, other) = (&mut stdout, &mut stderr);
+    let log = ServerLog::new(rt.alloc(), level_of(options.log), told);
+    let log = &log;
     // (threads of their own print, so nothing else waits until the lines are taken)
     let (_, status) = thread::join(
         rt,
         || thread::join(
             rt,
             || print_all(rt, rt.alloc(), prints, writer),
-            || print_all(rt, rt.alloc(), told, other),
+            || thread::join(
+                rt,
+                || print_all(rt, rt.alloc(), told, other),
+                || write_metrics(rt, options, metrics, log),
+            ),
         ),
         || -> u8
             requires { AreServable options.now }
         {
-            let log = ServerLog::new(rt.alloc(), level_of(options.log), told);
-            let outputs = Outputs { prints, log: &log };
-            match &options.policy {
+            let stats = stats_of(options, told, metrics);
+            let outputs = Outputs { prints, log, stats };
+            let status = match &options.policy {
                 Some(path) => {
-                    let mut watcher = FileWatcher { rt, log: &log };
+                    let mut watcher = FileWatcher { rt, log };
                     let mut policies = WatchedFile::new(rt, path.as_str(), &mut watcher);
-                    serve_clients(rt, options, slice::from_mut(&mut policies), outputs)
+                    serve_clients(rt, options, build, slice::from_mut(&mut policies), outputs)
                 }
                 None => {
                     let mut policies = Frames::new(rt.alloc(), source);
-                    serve_clients(rt, options, slice::from_mut(&mut policies), outputs)
+                    serve_clients(rt, options, build, slice::from_mut(&mut policies), outputs)
                 }
-            }
+            };
+            metrics.end(rt);
+            status
         },
     );
     ExitCode::from(status)
@@ -82,20 +101,40 @@ fn done<I: Read>(rt: &HostRuntime, input: &mut PolicyInput<I>) -> Result<u8, Ser
     let start = start(rt);
     let mut sink = WriteSink::new(rt.stdout());
     let mut errors = WriteSink::new(rt.stderr());
-    match run(rt.alloc(), &start, input, &mut sink, &mut errors) {
+    let ran = run(rt.alloc(), &start, input, &mut sink, &mut errors);
+    let end = ended(rt, &start, ran, input, &mut sink, &mut errors);
+    end
+}
+
+/// Does what `run` has left to do, and returns the status: its own, if it has ended. Or returns the options by which clients are to be
+/// served.
+fn ended<I: Read, W: Sink, E: Sink>(
+    rt: &HostRuntime,
+    start: &Result<Start<String>, StartFault>,
+    ran: Ran,
+    input: &mut PolicyInput<I>,
+    sink: &mut W,
+    errors: &mut E,
+) -> Result<u8, ServeOptions>
+    requires { (options : ServeOptions) → ran ≡ came.Serve options → AreServable options }
+    ensures end { IsEndOf ran result }
+    ensures servable { (options : ServeOptions) → result ≡ Err options → AreServable options }
+{
+    match ran {
         Ran::Ended(status) => {
-            tell_of_input(rt.alloc(), &start, input, &mut errors);
-            Ok(status)
+            let told = tell_of_input(rt.alloc(), start, input, status, errors);
+            Ok(told)
         }
-        Ran::OnFile(task, file) => match &start {
+        Ran::OnFile(task, file) => match start {
             Ok(start) => {
                 let path = file.as_str();
-                Ok(run_on_file(rt, start.keys, &task, path, &mut sink, &mut errors))
+                Ok(run_on_file(rt, start.keys, &task, path, sink, errors))
             }
             // (who hasn't started names no file)
             Err(_) => Ok(1),
         },
-        Ran::Split(options) => Ok(split(rt, &options, input, &mut sink, &mut errors)),
+        Ran::Compare(options) => Ok(compare(rt, &options, input, sink, errors)),
+        Ran::Split(options) => Ok(split(rt, &options, input, sink, errors)),
         Ran::Serve(options) => Err(options),
     }
 }

@@ -1,7 +1,9 @@
 // What is told on standard error of a policy that a task has read (docs/POLICY.md, "Where a fault stands").
 ghost use Rattle.std.specs.Prelude.{◌≡◌, IfOk, option_copied};
+ghost use Rattle.natsd.specs.Status.{IsKept};
 ghost use Rattle.natsd.specs.Telling.{question_of, IsPlaceIf};
 
+use crate::checked::{strict_status, tell_of_check};
 use crate::policy_input::PolicyInput;
 use base::NoMemory;
 use command_line::{Invocation, Question, Task, WordsFault, read_words};
@@ -15,26 +17,43 @@ use std::{io, str};
 use tasks::{Start, StartFault};
 
 /// What is told where memory lacks.
-const NO_MEMORY: &[u8] = b"no memory\n";
+pub const NO_MEMORY: &[u8] = b"no memory\n";
 
-/// Tells of what a task has read on standard input: why it couldn't, and what is to be known of a policy's text.
+/// What the options `log` and `keepalive` take.
+const LOG_WORDS: &[u8] = b"--log takes none, denials or all\n";
+
+const KEEPALIVE_WORDS: &[u8] = b"--keepalive takes off, or seconds, 1 to 32767\n";
+
+/// Tells of what a task has read on standard input: why it couldn't, and what is to be known of a policy's text; or what an option
+/// takes whose word isn't known.
+/// Returns the status of the task, which ended with this one, and 1 at least where memory lacks to know what is
+/// asked.
 pub fn tell_of_input<R, E: Sink>(
     alloc: Global,
     start: &Result<Start<String>, StartFault>,
     input: &PolicyInput<R>,
+    status: u8,
     errors: &mut E,
-) {
+) -> u8
+    ensures { IsKept status result }
+{
     let Ok(start) = start else {
-        return;
+        return status;
     };
     if let Some(error) = input.failed() {
         tell_error(alloc, "standard input", error, errors);
-    } else if asks_for(start, "check") {
-        tell_of_text(alloc, None, input, errors);
-    } else if asks_for(start, "explain") {
-        match question_in(alloc, start) {
-            Ok(question) => tell_of_text(alloc, question.as_ref(), input, errors),
-            Err(_) => drop(write_all(errors, NO_MEMORY)),
+        return status;
+    }
+    if !asks_for(start, "check") && !asks_for(start, "explain") && !asks_for(start, "serve") {
+        return status;
+    }
+    match task_in(alloc, start) {
+        Ok(Some(task)) => tell_of_task(alloc, &task, input, status, errors),
+        Ok(None) => status,
+        Err(_) => {
+            drop(write_all(errors, NO_MEMORY));
+            // (whether a warning may be told isn't known)
+            status.max(1)
         }
     }
 }
@@ -47,13 +66,44 @@ fn asks_for(start: &Start<String>, task: &str) -> bool {
     }
 }
 
-/// Returns the question that the words ask of a policy on standard input, if they ask one. `NoMemory` where memory could not be
-/// had.
-fn question_in(alloc: Global, start: &Start<String>) -> Result<Option<Question>, NoMemory> {
+/// Returns the task on standard input that the words ask for, if they do. `NoMemory` where memory could not be had.
+fn task_in(alloc: Global, start: &Start<String>) -> Result<Option<Task>, NoMemory> {
     match read_words(alloc, start.words.as_slice()) {
-        Ok(Invocation::Task(Task::Explain(question))) => Ok(Some(question)),
+        Ok(Invocation::Task(task)) => Ok(Some(task)),
         Err(WordsFault::NoMemory) => Err(NoMemory),
         _ => Ok(None),
+    }
+}
+
+/// Tells of the policy that a task has read what is to be known of its text. Returns the status of the task, which
+/// ended with this one.
+pub fn tell_of_task<R, E: Sink>(
+    alloc: Global,
+    task: &Task,
+    input: &PolicyInput<R>,
+    status: u8,
+    errors: &mut E,
+) -> u8
+    ensures { IsKept status result }
+{
+    match task {
+        Task::Check | Task::Strict => {
+            let is_warned = tell_of_check(alloc, input, errors);
+            strict_status(task, status, is_warned)
+        }
+        Task::Sets | Task::Explain(_) => {
+            tell_of_text(alloc, question_of(task), input, errors);
+            status
+        }
+        Task::BadLog => {
+            drop(write_all(errors, LOG_WORDS));
+            status
+        }
+        Task::BadKeepalive => {
+            drop(write_all(errors, KEEPALIVE_WORDS));
+            status
+        }
+        Task::Play | Task::BadKind | Task::Help(_) | Task::Version(_) => status,
     }
 }
 
@@ -67,8 +117,8 @@ pub fn question_of(task: &Task) -> Option<&Question>
     }
 }
 
-/// Tells of the policy that was read where its fault stands, or else the entry that decides what was asked, and which keys
-/// stand twice in one object.
+/// Tells of the policy that was read where its fault stands, or else the entry that decides what was asked, and which
+/// keys stand twice in one object.
 pub fn tell_of_text<R, E: Sink>(
     alloc: Global,
     asked: Option<&Question>,
@@ -123,7 +173,7 @@ fn place_if(
 }
 
 /// Writes what an operator is told, a line each.
-fn write_notes<E: Sink>(alloc: Global, notes: &Notes, errors: &mut E) {
+pub fn write_notes<E: Sink>(alloc: Global, notes: &Notes, errors: &mut E) {
     for warning in notes.warnings.as_slice() {
         write_line(format!(in alloc; "warning: {warning}\n"), errors);
     }
@@ -138,7 +188,7 @@ pub fn tell_error<E: Sink>(alloc: Global, what: &str, error: &io::Error, errors:
 }
 
 /// Writes a line, or that there is no memory for it.
-fn write_line<E: Sink>(line: Result<String, AllocError>, errors: &mut E) {
+pub fn write_line<E: Sink>(line: Result<String, AllocError>, errors: &mut E) {
     let told = match &line {
         Ok(line) => write_all(errors, line.as_str().as_bytes()),
         Err(_) => write_all(errors, NO_MEMORY),

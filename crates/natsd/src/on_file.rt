@@ -1,7 +1,7 @@
 // A task on the policy of a file, in place of standard input.
 ghost use Rattle.std.specs.Prelude.{◌≡◌, IfSome, None};
 
-use crate::notes::{question_of, tell_error, tell_of_text};
+use crate::notes::{tell_error, tell_of_task};
 use crate::policy_input::PolicyInput;
 use command_line::Task;
 use devices::Sink;
@@ -27,10 +27,9 @@ pub fn run_on_file<R: Files + AllocGlobal, W: Sink, E: Sink>(
     let status = run_and_tell(alloc, keys, task, &mut input, sink, errors);
     if let Some(error) = input.failed() {
         tell_error(alloc, path, error, errors);
-    } else {
-        tell_of_text(alloc, question_of(task), &input, errors);
+        return status;
     }
-    status
+    tell_of_task(alloc, task, &input, status, errors)
 }
 
 /// Opens a file as an input, or tells on the error sink why it can't be.

@@ -11,12 +11,12 @@ use devices::{ReadFault, Sink, read_within, write_all};
 use policy_sets::parts::{PolicyPart, parts_of};
 use policy_text::account_config::MOST_BYTES;
 use policy_text::reload::ReloadFault;
-use policy_walk::ConfigFault;
 use std::alloc::{AllocError, AllocGlobal, Global};
 use std::fs::{DirBuilder, Files, OpenOptions};
 use std::io;
 use std::io::{Read, Write};
 use std::os::unix::fs::{DirBuilderExt, OpenOptionsExt};
+use tasks::ConfigFault;
 
 /// Why not all parts of a policy are written.
 #[derive(Drop)]

@@ -8,7 +8,7 @@ use Rattle.subjects.proofs.Text.{pattern_again}
 use Rattle.subjects.proofs.pattern_groups.Literal.{covers-hash}
 use Rattle.subjects.specs.pattern_groups.Links.{at, IsLeast}
 use Rattle.subjects.specs.pattern_groups.Places.{AreLiteral, Hashed, IsIndexOf, PassesByHash, pattern_at, hash_at}
-use Rattle.pattern_sets.specs.Judging.{is_within, subject_of, IsCovered}
+use Rattle.pattern_sets.specs.Judging.{is_within, subject_of, IsCovered, IsFirstCover}
 use Rattle.pattern_sets.specs.declared.search.Reason.{Reason}
 
 pub as_many : (index : Hashed) (reasons : List Reason) → IsIndexOf (map subject_of reasons) index → length index.hashes ≤ length reasons
@@ -41,3 +41,8 @@ pub covered : (reasons : List Reason) (reason : Reason) (index : Hashed) (least 
     IsLeast (λ i. is_within reason (slice_index_or reasons i reason)) (length index.hashes) least → IsCovered reasons reason (is_some least)
 covered reasons reason index None is h = λ i below. let many = is.as_many ∙ length-map reasons subject_of in h i (omega (arith, below, many))
 covered reasons reason index (Some i) is h = let many = is.as_many ∙ length-map reasons subject_of in (i, omega (arith, h.0, many), h.1)
+
+pub first_cover : (index : Hashed) (reasons : List Reason) (reason : Reason) (least : Option ℕ) → IsIndexOf (map subject_of reasons) index →
+    IsLeast (λ i. is_within reason (slice_index_or reasons i reason)) (length index.hashes) least → IsFirstCover reasons reason least
+first_cover index reasons reason None is h = λ i below. let many = is.as_many ∙ length-map reasons subject_of in h i (omega (arith, below, many))
+first_cover index reasons reason (Some i) is h = let many = is.as_many ∙ length-map reasons subject_of in (omega (arith, h.0, many), h.1, h.2)

@@ -1,7 +1,8 @@
 -- Reasons, and which of them has all questions of another.
-use Rattle.std.specs.Prelude.{◌≡◌, ◌<◌, ◌&&◌, ℕ, Bool, true, false, List, length, not}
+use Rattle.std.specs.Prelude.{◌≡◌, ◌<◌, ◌&&◌, ⊤, ℕ, Bool, true, false, List, length, not, Option, Some, None}
 use Rattle.std.specs.List.{list_any, slice_index_or}
-use Rattle.subjects.specs.Subject.{Token, covers, in_set}
+use Rattle.subjects.specs.Subject.{Token, covers, in_set, tokens_of}
+use Rattle.pattern_sets.specs.declared.search.Asked.{Asked}
 use Rattle.pattern_sets.specs.declared.search.Reason.{Reason}
 
 abbrev pub subject_of : Reason → List Token
@@ -15,6 +16,19 @@ is_within narrow wide = covers wide.subject.now narrow.subject.now && covers wid
 abbrev pub IsCovered : List Reason → Reason → Bool → Type 0
 IsCovered reasons reason true = (i : ℕ) × (i < length reasons) × (is_within reason (slice_index_or reasons i reason) ≡ true)
 IsCovered reasons reason false = (i : ℕ) → i < length reasons → is_within reason (slice_index_or reasons i reason) ≡ false
+
+-- the least index of a reason that has all of another, or none has
+abbrev pub IsFirstCover : List Reason → Reason → Option ℕ → Type 0
+IsFirstCover reasons reason None = (i : ℕ) → i < length reasons → is_within reason (slice_index_or reasons i reason) ≡ false
+IsFirstCover reasons reason (Some least) =
+    (least < length reasons)
+    × (is_within reason (slice_index_or reasons least reason) ≡ true)
+    × ((i : ℕ) → i < least → is_within reason (slice_index_or reasons i reason) ≡ false)
+
+-- what is found is judged to differ
+abbrev pub IsFound : (List Token → Option (List Token) → Bool) → Option Asked → Type 0
+IsFound differs None = ⊤
+IsFound differs (Some asked) = differs (tokens_of asked.subject.items) asked.queue ≡ true
 
 -- a subject of some patterns, and of none of others
 abbrev pub is_member : {P : Type 0} → (P → List Token) → List P → List P → List Token → Bool

@@ -50,7 +50,7 @@ impl<'a, 'b> Patterns for Wider<'a, 'b> {
 
 impl<'a> Cover<'a> {
     ghost use Rattle.std.specs.Prelude.{◌≡◌, IfOk, length};
-    ghost use Rattle.pattern_sets.specs.Judging.{IsCovered};
+    ghost use Rattle.pattern_sets.specs.Judging.{IsCovered, IsFirstCover};
 
     /// These reasons. `NoMemory` where memory could not be had.
     pub fn of(alloc: Global, reasons: Vec<Reason<'a>>) -> Result<Cover<'a>, NoMemory>
@@ -62,19 +62,26 @@ impl<'a> Cover<'a> {
     }
 
     /// Whether one of the reasons has all questions of another.
-    pub fn has(&self, reason: &Reason<'a>) -> bool
+    pub fn has(&self, reason: &Reason<'_>) -> bool
         ensures { IsCovered self.now reason.now result }
     {
         has_wider(self.reasons.as_slice(), &self.index, reason)
     }
+
+    /// The least index of a reason that has all questions of another, if one has.
+    pub fn first(&self, reason: &Reason<'_>) -> Option<usize>
+        ensures { IsFirstCover self.now reason.now result }
+    {
+        first_wider(self.reasons.as_slice(), &self.index, reason)
+    }
 }
 
 ghost use Rattle.subjects.specs.pattern_groups.Places.{IsIndexOf};
-ghost use Rattle.pattern_sets.specs.Judging.{IsCovered};
+ghost use Rattle.pattern_sets.specs.Judging.{IsCovered, IsFirstCover};
 
 /// Whether one of some reasons, by their index, has all questions of another.
 #[tactic(auto, using(crate::proofs::Covering::as_many, crate::proofs::Covering::passes_by_hash, crate::proofs::Covering::covered))]
-fn has_wider<'a>(reasons: &[Reason<'a>], index: &PatternIndex, reason: &Reason<'a>) -> bool
+fn has_wider(reasons: &[Reason<'_>], index: &PatternIndex, reason: &Reason<'_>) -> bool
     requires { IsIndexOf (map subject_of reasons.now) index.now }
     ensures { IsCovered reasons.now reason.now result }
 {
@@ -87,6 +94,22 @@ fn has_wider<'a>(reasons: &[Reason<'a>], index: &PatternIndex, reason: &Reason<'
     };
     let least = index.least(text, &asked);
     least.is_some()
+}
+
+/// The least index of some reasons, by their index, that has all questions of another.
+#[tactic(auto, using(crate::proofs::Covering::as_many, crate::proofs::Covering::passes_by_hash, crate::proofs::Covering::first_cover))]
+fn first_wider(reasons: &[Reason<'_>], index: &PatternIndex, reason: &Reason<'_>) -> Option<usize>
+    requires { IsIndexOf (map subject_of reasons.now) index.now }
+    ensures { IsFirstCover reasons.now reason.now result }
+{
+    // (the tokens tell the prover that they are those of a pattern)
+    let _ = reason.subject.tokens();
+    let text = reason.subject.bytes();
+    let asked = Wider {
+        reasons,
+        than: reason,
+    };
+    index.least(text, &asked)
 }
 
 /// The patterns of the subjects of reasons.

@@ -73,15 +73,20 @@ struct Part<'a> {
 }
 
 impl<'a> Search<'a> {
+    ghost use Rattle.std.specs.Prelude.{IfOk};
+    ghost use Rattle.pattern_sets.specs.Judging.{IsFound};
+
     /// Returns the first sample that the first judge allows and the second refuses: one with the fewest tokens, and among those
-    /// the first by the order of the reasons. `None` exactly where they judge all questions alike, of subjects or, with a tail, of
+    /// the first by the order of the reasons. `None` where they judge all questions alike, of subjects or, with a tail, of
     /// patterns that end in `>`. `NoMemory` where memory could not be had.
     pub fn first<J: Judges>(
         &self,
         alloc: Global,
         has_tail: bool,
         judges: &J,
-    ) -> Result<Option<Asked>, NoMemory> {
+    ) -> Result<Option<Asked>, NoMemory>
+        ensures { IfOk result (IsFound (J.differs judges.now)) }
+    {
         for before in 0..self.most {
             let tokens = before + 1;
             if let Some(found) = self.first_of(alloc, Length { tokens, has_tail }, judges)? {
@@ -97,7 +102,9 @@ impl<'a> Search<'a> {
         alloc: Global,
         length: Length,
         judges: &J,
-    ) -> Result<Option<Asked>, NoMemory> {
+    ) -> Result<Option<Asked>, NoMemory>
+        ensures { IfOk result (IsFound (J.differs judges.now)) }
+    {
         let others = self.refusing_parts(alloc, length)?;
         for one in self.allowing.as_slice() {
             if let Some(part) = part_with(alloc, &one.reason, length, one.reach)? {
@@ -127,7 +134,9 @@ impl<'a> Search<'a> {
         one: &Part<'_>,
         others: &[Part<'_>],
         judges: &J,
-    ) -> Result<Option<Asked>, NoMemory> {
+    ) -> Result<Option<Asked>, NoMemory>
+        ensures { IfOk result (IsFound (J.differs judges.now)) }
+    {
         for other in others {
             if one.place <= other.place {
                 return Ok(None);
@@ -156,7 +165,9 @@ impl<'a> Search<'a> {
         one: &Pattern,
         other: &Pattern,
         judges: &J,
-    ) -> Result<Option<Asked>, NoMemory> {
+    ) -> Result<Option<Asked>, NoMemory>
+        ensures { IfOk result (IsFound (J.differs judges.now)) }
+    {
         match self.most_of_queues {
             Some(most) => self.asked_with(alloc, text, (one, other), most, judges),
             None => {
@@ -179,7 +190,9 @@ impl<'a> Search<'a> {
         queues: (&Pattern, &Pattern),
         most: usize,
         judges: &J,
-    ) -> Result<Option<Asked>, NoMemory> {
+    ) -> Result<Option<Asked>, NoMemory>
+        ensures { IfOk result (IsFound (J.differs judges.now)) }
+    {
         for before in 0..most {
             if let Some(queue) = self.queue_of(alloc, queues, before + 1)? {
                 if judges.differ(alloc, text.as_slice(), Some(&queue))? {

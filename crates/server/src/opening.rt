@@ -2,6 +2,7 @@
 ghost use Rattle.std.specs.Prelude.{◌≡◌, IfOk};
 ghost use Rattle.server.specs.Serve.{AreServable};
 
+use crate::keepalive::look_after_clients;
 use crate::policy_source::Policies;
 use crate::reloads::{NextPolicy, next_policy, tell_refused, tell_warnings};
 use crate::settings::Settings;
@@ -9,7 +10,7 @@ use mio::net::TcpListener;
 use policy_ready::Ready;
 use server_log::ServerLog;
 use server_log::prints::Prints;
-use server_port::fault::Fault;
+use server_loop::StatsOutput;
 use server_state::mail::Limits;
 use shared_hub::{Caps, Hub};
 use std::alloc::{AllocGlobal, Global};
@@ -19,6 +20,10 @@ use std::io::ErrorKind;
 use std::net::{Net, SocketAddr};
 use std::sync::{Mutex, Wait};
 use std::time::Clock;
+use worker_port::fault::Fault;
+
+/// What is said of a text that is no address.
+const NO_ADDRESS: &str = "no numeric address with a port, such as 0.0.0.0:4222 or [::]:4222";
 
 /// What is opened for a server beside its hub: where it listens, the limits that it keeps to, and its log.
 #[derive(Drop)]
@@ -26,6 +31,7 @@ pub(crate) struct Opened<'x> {
     pub(crate) listener: TcpListener,
     pub(crate) limits: Limits,
     pub(crate) log: &'x ServerLog<'x>,
+    pub(crate) stats: Option<StatsOutput<'x>>,
 }
 
 /// Reads the first policy, or returns `None` where the input ends before it. The log tells what is to be known of its text.
@@ -52,23 +58,33 @@ pub(crate) fn first_policy<R: Wait + Clock + AllocGlobal, P: Policies>(
     }
 }
 
-/// Listens at an address with its port. It fails where the text is no address, or can't be listened at; the log tells why.
-pub(crate) fn listen<R: Net + Wait + Clock>(
+/// Listens as the settings say. It fails where their text is no address with its port, or can't be listened at, or where the
+/// system can't look after clients; the log has the text, and why.
+pub(crate) fn listen<R: Net + Wait + Clock + AllocGlobal>(
     rt: &R,
-    address: &str,
+    settings: Settings<'_>,
     log: &ServerLog<'_>,
 ) -> Result<TcpListener, Fault> {
-    let bound = match address.parse::<SocketAddr>() {
-        Ok(address) => TcpListener::bind(rt, address),
-        Err(_) => Err(io::Error::new(ErrorKind::InvalidInput, "no numeric address with a port")),
-    };
-    match bound {
+    match bind(rt, settings) {
         Ok(listener) => Ok(listener),
         Err(error) => {
-            log.tell_failed(rt, "listen", &error);
+            match format!(in rt.alloc(); "listen {}", settings.listen) {
+                Ok(what) => log.tell_failed(rt, what.as_str(), &error),
+                Err(_) => log.tell_failed(rt, "listen", &error),
+            }
             Err(Fault::ListenFailed)
         }
     }
+}
+
+/// Returns what listens at the settings' address, and has the system look after those who connect.
+fn bind<R: Net>(rt: &R, settings: Settings<'_>) -> io::Result<TcpListener> {
+    let Ok(address) = settings.listen.parse::<SocketAddr>() else {
+        return Err(io::Error::new(ErrorKind::InvalidInput, NO_ADDRESS));
+    };
+    let listener = TcpListener::bind(rt, address)?;
+    look_after_clients(&listener, settings.keepalive)?;
+    Ok(listener)
 }
 
 /// Prints where the listener listens.
@@ -104,6 +120,7 @@ pub(crate) fn open_hub(
         history: caps.history,
         history_bytes: settings.history_bytes,
         connections: settings.connections,
+        tells_removed: settings.tells_removed,
         keys,
     };
     match Hub::new(alloc, ready, caps, keys) {

@@ -5,14 +5,15 @@ ghost use Rattle.server.specs.Serve.{AreServable};
 use crate::opening::{Opened, first_policy, listen, open_hub, tell_listening};
 use crate::policy_source::Policies;
 use crate::settings::Settings;
+use crate::starting::tell_started;
 use crate::threads::{ReloadStart, ThreadStarts, WorkerAccess, serve};
 use rand::make_rng;
 use rand::rngs::SmallRng;
 use rand_core::Rng;
 use server_log::ServerLog;
 use server_log::prints::Prints;
-use server_loop::Access;
-use server_port::fault::Fault;
+use server_loop::StatsOutput;
+use server_port::Access;
 use server_port::gates::Gate;
 use session_conn::Words;
 use shared_hub::{Blank, Hub, Run, Seat, SharedHub};
@@ -24,6 +25,7 @@ use std::random::RandomSource;
 use std::sync::Wait;
 use std::thread::Threads;
 use std::time::Clock;
+use worker_port::fault::Fault;
 
 /// Where the gates of a server's threads come from.
 pub trait GateSource<G> {
@@ -53,6 +55,8 @@ struct Lent<'x, F, P> {
 pub struct Outputs<'x> {
     pub prints: &'x Prints,
     pub log: &'x ServerLog<'x>,
+    /// Where it is told what is counted, if something is.
+    pub stats: Option<StatsOutput<'x>>,
 }
 
 impl Words for Drawn {
@@ -107,7 +111,7 @@ fn serve_policies<
 ) -> Result<(), Fault>
     requires { AreServable settings.workers settings.outbox settings.history settings.history_bytes settings.connections }
 {
-    let Outputs { prints, log } = outputs;
+    let Outputs { prints, log, stats } = outputs;
     let Some(first) = policies.first_mut() else {
         return Ok(());
     };
@@ -115,16 +119,18 @@ fn serve_policies<
         return Ok(());
     };
     log.note_policy(rt, 1, &ready);
-    let listener = listen(rt, settings.listen, log)?;
+    let listener = listen(rt, settings, log)?;
     let Ok(keys) = RandomState::new(rt) else {
         return Err(Fault::NoKeys);
     };
     let (hub, limits) = open_hub(rt.alloc(), settings, ready, keys)?;
+    tell_started(rt, settings, &listener, log);
     let seats = settings.workers.saturating_add(policies.len() as u64);
     let opened = Opened {
         listener,
         limits,
         log,
+        stats,
     };
     let lent = Lent {
         gates,

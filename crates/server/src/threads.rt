@@ -5,10 +5,10 @@ use crate::reloads::{Installs, Reloads};
 use mio::net::TcpListener;
 use server_log::ServerLog;
 use server_log::prints::Prints;
-use server_loop::{Access, Start, WAKER, Worker};
-use server_port::fault::{ServeFault, least};
+use server_loop::{Start, Stats, WAKER, Worker};
 use server_port::gates::Gate;
-use server_state::mail::{Flags, Mailbox, ServerState, millis, open_mailbox};
+use server_port::{Access, ServerPort};
+use server_state::mail::{Flags, Mailbox, OutgoingMail, ServerState, millis, open_mailbox};
 use session_conn::Words;
 use shared_hub::{Run, SharedHub};
 use std::alloc::Global;
@@ -18,6 +18,8 @@ use std::sync::Wait;
 use std::thread;
 use std::thread::Threads;
 use std::time::Clock;
+use worker_port::WorkerPort;
+use worker_port::fault::{ServeFault, least};
 
 /// What a thread that installs policies begins with, and the input of these, which is lent to it.
 #[derive(Drop)]
@@ -31,6 +33,13 @@ pub(crate) struct ReloadStart<'b, L: Run, G: Drop, P> {
 pub(crate) struct WorkerAccess<L: Run, G: Drop, W: Drop> {
     pub(crate) access: Access<L, G>,
     pub(crate) words: W,
+}
+
+/// What a worker's thread begins with: its access to the hub, and what it works with beside that.
+#[derive(Drop)]
+struct WorkerStart<L: Run, G: Drop, W: Drop> {
+    access: Access<L, G>,
+    start: Start<W>,
 }
 
 /// What the threads of a server begin with: an access to the hub for each worker, and the start of each input's reloads.
@@ -78,14 +87,48 @@ fn common_of<'a, L: Run, R>(
     }
 }
 
+impl<'a, L: Run, R: Wait> Common<'a, L, R> {
+    /// Returns the port to the hub of a worker of this number. Without memory it returns `None`.
+    fn port_of<G: Gate + Drop>(
+        &self,
+        index: usize,
+        access: Access<L, G>,
+    ) -> Option<ServerPort<'a, L, R, G>> {
+        let outgoing = OutgoingMail::new(self.alloc, self.state.mailboxes.len(), Some(index))?;
+        Some(ServerPort::new(
+            self.rt,
+            self.alloc,
+            self.shared,
+            self.state,
+            access,
+            outgoing,
+        ))
+    }
+}
+
+/// Runs a worker over its port to the hub, from its start to its end, and returns its fault.
+fn work<P: WorkerPort + Drop, R: Wait + Clock, W: Words + Drop>(
+    rt: &R,
+    alloc: Global,
+    state: &ServerState<'_>,
+    port: P,
+    start: Start<W>,
+) -> Option<ServeFault> {
+    match Worker::new(rt, alloc, state, port, start) {
+        None => Some(ServeFault::NoMemory),
+        Some(mut worker) => worker.run(),
+    }
+}
+
 impl<'a, 'b, L: Run, R: Wait + Clock, G: Gate + Drop, W: Words + Drop, P: Policies> Duties<
-    Start<L, G, W>,
+    WorkerStart<L, G, W>,
     ReloadStart<'b, L, G, P>,
 > for Common<'a, L, R> {
-    fn work(&self, start: Start<L, G, W>) -> Option<ServeFault> {
-        let fault = match Worker::new(self.rt, self.alloc, self.shared, self.state, start) {
+    fn work(&self, start: WorkerStart<L, G, W>) -> Option<ServeFault> {
+        let WorkerStart { access, start } = start;
+        let fault = match self.port_of(start.index, access) {
             None => Some(ServeFault::NoMemory),
-            Some(mut worker) => worker.run(),
+            Some(port) => work(self.rt, self.alloc, self.state, port, start),
         };
         if fault.is_some() {
             self.state.stop();
@@ -138,11 +181,15 @@ pub(crate) fn serve<
         listener,
         limits,
         log,
+        stats,
     } = opened;
     let ThreadStarts { accesses, reloads } = starts;
     let (mailboxes, starts) = open_all(rt, alloc, listener, accesses, log)?;
     let flags = Flags::new(limits);
-    let state = ServerState::new(mailboxes.as_slice(), limits, millis(rt), &flags, log);
+    let stats = stats.map(|output| Stats::new(alloc, output, mailboxes.len()));
+    let state = ServerState::new(mailboxes.as_slice(), limits, millis(rt), &flags, log).counting(
+        stats.as_ref(),
+    );
     let installs = Installs::new(prints);
     let common = common_of(rt, alloc, shared, &state, &installs);
     match run_all(rt, &common, reloads, starts) {
@@ -214,7 +261,7 @@ fn open_all<L: Run, R: Net + Wait + Clock, G: Drop, W: Drop>(
     listener: TcpListener,
     accesses: Vec<WorkerAccess<L, G, W>>,
     log: &ServerLog<'_>,
-) -> Result<(Vec<Mailbox>, Vec<Start<L, G, W>>), ServeFault> {
+) -> Result<(Vec<Mailbox>, Vec<WorkerStart<L, G, W>>), ServeFault> {
     let mut accesses = VecDeque::from(accesses);
     let mut listener = Some(listener);
     let mut mailboxes = Vec::new(alloc);
@@ -232,11 +279,11 @@ fn open_all<L: Run, R: Net + Wait + Clock, G: Drop, W: Drop>(
         };
         let start = Start {
             index,
-            access,
             words,
             poll,
             listener: listener.take(),
         };
+        let start = WorkerStart { access, start };
         if mailboxes.push(mailbox).is_err() || starts.push(start).is_err() {
             return Err(ServeFault::NoMemory);
         }

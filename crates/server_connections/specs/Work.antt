@@ -1,6 +1,7 @@
 -- Which connections have work, and which kind.
 use Rattle.std.specs.Option.{unwrap_or}
-use Rattle.std.specs.Prelude.{◌≡◌, ◌&&◌, ◌||◌, ℕ, List, length, Bool, true, false, not, Option, None, Some, is_some, min, nat_eq}
+use Rattle.std.specs.Prelude.{◌≡◌, ◌<◌, ◌&&◌, ◌||◌, ℕ, List, length, find, Bool, true, false, not, Option, None, Some, is_some, min, nat_eq}
+use Rattle.slab.specs.Slab.{Slab, get}
 use Rattle.server_socket.specs.Connections.{is_stuck, may_read}
 use Rattle.server_socket.specs.Queues.{IsPut}
 use Rattle.server_socket.specs.Fresh.{is_fresh}
@@ -37,6 +38,11 @@ abbrev pub IsQueued : (Queued → Bool) → (Bool → Queued → Queued) → ℕ
 IsQueued is_in mark key None queue it' queue' = (it' ≡ None) × (queue' ≡ queue)
 IsQueued is_in mark key (Some it) queue it' queue' = (now : Bool) × IsPut key (is_in it.queued) queue now queue' × (it' ≡ Some (marked (mark now) it))
 
+-- the same of those to be written to
+abbrev pub IsFlushed : ℕ → Option Connection → List ℕ → List ℕ → Type 0
+IsFlushed key it queue queue' =
+    (it' : Option Connection) × IsQueued (λ q. q.flush) mark_flush key it queue it' queue'
+
 -- the same, or nothing
 abbrev pub IsQueuedIf : Bool → (Queued → Bool) → (Bool → Queued → Queued) → ℕ → Option Connection → List ℕ → Option Connection → List ℕ → Type 0
 IsQueuedIf false is_in mark key it queue it' queue' = (it' ≡ it) × (queue' ≡ queue)
@@ -46,6 +52,16 @@ IsQueuedIf true is_in mark key it queue it' queue' = IsQueued is_in mark key it 
 abbrev pub is_readable : Option Connection → Bool
 is_readable None = false
 is_readable (Some it) = may_read it
+
+-- the worker has it, and its socket may have more to read
+abbrev pub has_input : Option Connection → Bool
+has_input None = false
+has_input (Some it) = it.readable
+
+-- the same once the system has told whether it has
+abbrev pub hears_input : Bool → Option Connection → Bool
+hears_input told None = false
+hears_input told (Some it) = it.readable || told
 
 -- the worker has it, and so much waits for it that it is written to soon
 abbrev pub is_pressing : ℕ → Option Connection → Bool
@@ -61,6 +77,10 @@ waits (Some it) = is_some it.held_until
 abbrev pub is_stuck_of : ℕ → Option Connection → Bool
 is_stuck_of now None = false
 is_stuck_of now (Some it) = is_stuck now it
+
+-- none of a worker's connections is stuck at a moment
+abbrev pub IsNoneStuck : ℕ → Slab Connection → Type 0
+IsNoneStuck now slab = (key : ℕ) → key < slab.capacity → is_stuck_of now (get slab key) ≡ false
 
 -- ---- rounds and turns
 
@@ -108,3 +128,10 @@ is_lingering entry (Some it) = it.lingers && nat_eq it.client.conn.conn entry.co
 abbrev pub is_still_fresh : Fresh → Option Connection → Bool
 is_still_fresh entry None = false
 is_still_fresh entry (Some it) = nat_eq it.client.conn.conn entry.conn && is_fresh it.client.conn.stage
+
+-- the first of these entries whose connection still lingers, or is still fresh
+abbrev pub first_lingering : Slab Connection → List Lingering → Option Lingering
+first_lingering slab entries = find (λ entry. is_lingering entry (get slab entry.key)) entries
+
+abbrev pub first_fresh : Slab Connection → List Fresh → Option Fresh
+first_fresh slab entries = find (λ entry. is_still_fresh entry (get slab entry.key)) entries

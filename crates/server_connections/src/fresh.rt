@@ -20,7 +20,7 @@ impl Connections {
     ghost use Rattle.slab.specs.Slab.{get};
     ghost use Rattle.server_socket.specs.turns.Turns.{is_over};
     ghost use Rattle.server_socket.specs.Fresh.{IsBounded};
-    ghost use Rattle.server_connections.specs.Work.{is_still_fresh};
+    ghost use Rattle.server_connections.specs.Work.{first_fresh, is_still_fresh};
 
     /// Returns a connection's turn. Where too much is kept of a client without an accepted CONNECT, it writes the client an
     /// error and returns `Closed`.
@@ -65,7 +65,9 @@ impl Connections {
 
     /// Returns the one that has waited longest without an accepted CONNECT, if there is one. Others before it are dropped.
     pub fn first_fresh(&mut self) -> Option<Fresh>
-        ensures { IfSome result (λ entry. is_still_fresh entry (get self.new.slab entry.key) ≡ true) }
+        ensures stands { IfSome result (λ entry. is_still_fresh entry (get self.new.slab entry.key) ≡ true) }
+        ensures first { result ≡ first_fresh self.old.slab self.old.fresh.items }
+        ensures rest { self.new ≡ record self.old { fresh = self.new.fresh } }
     {
         for _ in 0..self.fresh.len() {
             let first = self.fresh.front().copied()?;

@@ -19,7 +19,7 @@ pub struct Lingering {
 impl Connections {
     ghost use Rattle.std.specs.Prelude.{IfSome, true};
     ghost use Rattle.slab.specs.Slab.{get};
-    ghost use Rattle.server_connections.specs.Work.{is_lingering};
+    ghost use Rattle.server_connections.specs.Work.{first_lingering, is_lingering};
 
     /// Ends the writing to a connection that is over, and lets its socket linger. It stays until the peer has ended or failed,
     /// for two seconds at most, and what comes meanwhile is read and dropped. Returns whether it stays: without memory, or
@@ -75,7 +75,9 @@ impl Connections {
 
     /// Returns the one that has lingered longest, if one lingers. Those that are gone are dropped.
     pub fn first_lingering(&mut self) -> Option<Lingering>
-        ensures { IfSome result (λ entry. is_lingering entry (get self.new.slab entry.key) ≡ true) }
+        ensures stands { IfSome result (λ entry. is_lingering entry (get self.new.slab entry.key) ≡ true) }
+        ensures first { result ≡ first_lingering self.old.slab self.old.lingering.items }
+        ensures rest { self.new ≡ record self.old { lingering = self.new.lingering } }
     {
         for _ in 0..self.lingering.len() {
             let first = self.lingering.front().copied()?;

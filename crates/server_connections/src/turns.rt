@@ -19,7 +19,7 @@ pub enum Reads {
 impl Connections {
     ghost use Rattle.std.specs.Prelude.{ℕ, false, option_map, true};
     ghost use Rattle.slab.specs.Slab.{get};
-    ghost use Rattle.server_connections.specs.Work.{barred_by, goes_on, is_to_end, mark_cut, mark_ready, marked, reads_of};
+    ghost use Rattle.server_connections.specs.Work.{barred_by, goes_on, is_to_end, mark_cut, mark_ready, marked, reads_of, IsFlushed};
 
     /// Takes a connection out of those with something to read, and returns what is to be done with that.
     pub fn begin_ready(&mut self, key: usize) -> Reads
@@ -95,6 +95,7 @@ impl Connections {
     pub fn try_again(&mut self, key: usize) -> bool
         ensures ends { result ≡ is_to_end (get self.old.slab key) }
         ensures same { result ≡ true → self.new ≡ self.old }
+        ensures queued { result ≡ false → IsFlushed key (get self.old.slab key) self.old.flush self.new.flush }
     {
         let is_over = matches!(self.slab.get(key), Some(it) if it.is_over && !it.lingers);
         if !is_over {

@@ -10,7 +10,7 @@ const LOOKS: u32 = 100;
 impl Connections {
     ghost use Rattle.std.specs.Prelude.{◌-◌, ℕ, []};
     ghost use Rattle.slab.specs.Slab.{get};
-    ghost use Rattle.server_connections.specs.Work.{are_idle, is_pressing, is_readable, mark_cut, mark_flush, mark_pressing, mark_ready, IsQueued, IsQueuedIf};
+    ghost use Rattle.server_connections.specs.Work.{are_idle, has_input, hears_input, is_pressing, is_readable, mark_cut, mark_flush, mark_pressing, mark_ready, IsQueued, IsQueuedIf};
 
     /// Begins a round.
     pub fn begin_round(&mut self)
@@ -30,6 +30,7 @@ impl Connections {
 
     /// Notes what the system tells of a socket.
     pub fn note_socket(&mut self, key: usize, readable: bool, writable: bool)
+        ensures input { has_input (get self.new.slab key) ≡ hears_input readable (get self.old.slab key) }
         ensures rest { self.new ≡ record self.old { looks = self.new.looks; slab = self.new.slab; ready = self.new.ready; flush = self.new.flush } }
         ensures others { (other : ℕ) → other ≢ key → get self.new.slab other ≡ get self.old.slab other }
     {
@@ -47,6 +48,7 @@ impl Connections {
     pub(crate) fn queue_ready(&mut self, key: usize)
         ensures queue { IsQueuedIf (is_readable (get self.old.slab key)) (λ q. q.ready) mark_ready key (get self.old.slab key) self.old.ready (get self.new.slab key) self.new.ready }
         ensures rest { self.new ≡ record self.old { looks = 100; slab = self.new.slab; ready = self.new.ready } }
+        ensures input { has_input (get self.new.slab key) ≡ has_input (get self.old.slab key) }
         ensures others { (other : ℕ) → other ≢ key → get self.new.slab other ≡ get self.old.slab other }
     {
         self.looks = LOOKS;
@@ -61,6 +63,7 @@ impl Connections {
     pub fn queue_flush(&mut self, key: usize)
         ensures queue { IsQueued (λ q. q.flush) mark_flush key (get self.old.slab key) self.old.flush (get self.new.slab key) self.new.flush }
         ensures rest { self.new ≡ record self.old { looks = 100; slab = self.new.slab; flush = self.new.flush } }
+        ensures input { has_input (get self.new.slab key) ≡ has_input (get self.old.slab key) }
         ensures others { (other : ℕ) → other ≢ key → get self.new.slab other ≡ get self.old.slab other }
     {
         self.looks = LOOKS;

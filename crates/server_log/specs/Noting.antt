@@ -12,8 +12,8 @@ use Rattle.events.specs.declared.refusal.HubRefusal.{HubRefusal}
 use Rattle.events.specs.declared.refusal.HubRefusal.TheVariants.{NoSession}
 use Rattle.events.specs.declared.refusal.PublishRefusal.{PublishRefusal}
 use Rattle.events.specs.declared.refusal.PublishRefusal.TheVariants.{By, Held}
-use Rattle.server_log.specs.declared.lines.notice.LogLevel.{LogLevel}
-use Rattle.server_log.specs.declared.lines.notice.LogLevel.TheVariants as level
+use Rattle.server_log.specs.declared.level.LogLevel.{LogLevel}
+use Rattle.server_log.specs.declared.level.LogLevel.TheVariants as level
 use Rattle.server_log.specs.declared.noted.Noted.{Noted}
 
 -- ---- what is told

@@ -1,12 +1,18 @@
 //! What a server tells its operator (docs/OPERATING.md, "What the server tells"), and the lines that wait to be printed. It
-//! decides nothing, and nothing waits for it.
+//! decides nothing of a message, and knows no socket.
 #![tactic(auto)]
 
-pub mod lines;
+mod accounts;
+mod grants;
+mod level;
 mod log;
 mod noted;
+mod party;
 pub mod prints;
 
-pub use crate::lines::{LogLevel, Slowness, What};
-pub use log::{Party, ServerLog};
+pub use grants::GrantEnds;
+pub use level::LogLevel;
+pub use log::ServerLog;
+pub use log_lines::{Ending, GrantEnd, Slowness, Started, What};
 pub use noted::Noted;
+pub use party::Party;

@@ -1,20 +1,23 @@
-use crate::lines::{
-    Denial, Invalid, LogLevel, Notice, Rate, Slowness, Unrouted, What, line_of, what_of,
-};
+use crate::grants::GrantEnds;
+use crate::level::LogLevel;
 use crate::noted::{InvalidTexts, Noted};
+use crate::party::Party;
 use crate::prints::Prints;
 use base::{Copying, SharedText};
 use bytes::Bytes;
-use events::{Command, Entry, Item, Outcome, Removed};
+use events::{Command, Entry, Item, Message, Outcome, Removed};
+use log_lines::{
+    Denial, Ending, GrantEnd, Invalid, Notice, Program, Rate, Slowness, Unrouted, What, line_of,
+    what_of,
+};
 use permissions::Verdict;
 use policy_doc::permission_doc::PermEntry;
 use policy_ready::{Ready, User};
 use std::alloc::Global;
 use std::io;
-use std::net::SocketAddr;
 use std::sync::{Mutex, Wait};
 use std::time::Clock;
-use subjects::Subject;
+use subjects::{Pattern, Subject};
 
 /// How many lines a second a connection may have.
 const MOST_OF_ONE: u64 = 10;
@@ -25,16 +28,12 @@ const MOST_OF_ALL: u64 = 1000;
 /// How many policies are kept, so that the entry of an answer is found that another policy follows.
 const KEPT: usize = 4;
 
-/// What the log knows of a connection.
-#[derive(Drop)]
-pub struct Party {
-    conn: u64,
-    peer: Option<SocketAddr>,
-    /// Who its client is, once its CONNECT was accepted: the user, and the user's account.
-    user: Option<SharedText>,
-    account: Option<Bytes>,
-    rate: Rate,
-}
+/// What no client has said of its program.
+const NOT_SAID: Program<'static> = Program {
+    name: None,
+    lang: None,
+    version: None,
+};
 
 /// A policy, and the epoch that has it.
 #[derive(Drop)]
@@ -61,21 +60,8 @@ pub struct ServerLog<'a> {
     policies: Mutex<Vec<InForce>>,
 }
 
-impl Party {
-    /// Returns what is known of a connection whose client has said nothing.
-    pub fn new(conn: u64, peer: Option<SocketAddr>) -> Party {
-        Party {
-            conn,
-            peer,
-            user: None,
-            account: None,
-            rate: Rate::new(),
-        }
-    }
-}
-
 /// Returns the user of this name, if the policy has one.
-fn user_named<'x>(policy: &'x Option<Ready>, name: Option<&[u8]>) -> Option<&'x User> {
+pub(crate) fn user_named<'x>(policy: &'x Option<Ready>, name: Option<&[u8]>) -> Option<&'x User> {
     let (Some(policy), Some(name)) = (policy, name) else {
         return None;
     };
@@ -139,7 +125,7 @@ fn invalid_of(frame: &InvalidTexts) -> Invalid<'_> {
 }
 
 /// Returns the account of a user, if there is one.
-fn account_of(user: Option<&User>) -> Option<Bytes> {
+pub(crate) fn account_of(user: Option<&User>) -> Option<Bytes> {
     user?.account.clone().ok()
 }
 
@@ -156,6 +142,42 @@ fn queue_in(queue: &Option<Subject>) -> Option<&[u8]> {
     match queue {
         None => None,
         Some(queue) => Some(queue.bytes()),
+    }
+}
+
+/// Returns what is told of a message that is denied.
+fn denied_message<'x>(
+    message: &'x Message,
+    verdict: Verdict,
+    entry: Option<&'x [u8]>,
+    grant: Option<GrantEnd>,
+) -> Denial<'x> {
+    Denial {
+        command: "PUB",
+        subject: Some(message.subject().bytes()),
+        queue: None,
+        sid: None,
+        verdict,
+        entry,
+        grant,
+    }
+}
+
+/// Returns what is told of a subscription that is denied.
+fn denied_subscription<'x>(
+    subject: &'x Pattern,
+    queue: &'x Option<Subject>,
+    verdict: Verdict,
+    entry: Option<&'x [u8]>,
+) -> Denial<'x> {
+    Denial {
+        command: "SUB",
+        subject: Some(subject.bytes()),
+        queue: queue_in(queue),
+        sid: None,
+        verdict,
+        entry,
+        grant: None,
     }
 }
 
@@ -195,14 +217,14 @@ impl<'a> ServerLog<'a> {
     }
 
     /// Returns the policy of an epoch, if it is known.
-    fn policy_of<R: Wait>(&self, rt: &R, epoch: u128) -> Option<Ready> {
+    pub(crate) fn policy_of<R: Wait>(&self, rt: &R, epoch: u128) -> Option<Ready> {
         let policies = self.policies.lock(rt);
         let found = policies.as_slice().iter().find(|it| it.epoch == epoch)?;
         found.ready.copy(self.alloc).ok()
     }
 
     /// Returns the moment, in milliseconds since 1970, or 0 where the system has no such clock.
-    fn moment<R: Clock>(&self, rt: &R) -> u64 {
+    pub fn moment<R: Clock>(&self, rt: &R) -> u64 {
         match rt.since_1970() {
             Ok(time) => u64::try_from(time.as_millis()).unwrap_or(u64::MAX),
             Err(_) => 0,
@@ -266,6 +288,7 @@ impl<'a> ServerLog<'a> {
                 peer: None,
                 user: None,
                 account: None,
+                program: NOT_SAID,
                 what,
                 left_out: admitted.left_out,
             },
@@ -295,6 +318,9 @@ impl<'a> ServerLog<'a> {
 
     /// Tells something of a connection, with what is known of its client.
     pub fn tell_of<R: Wait + Clock>(&self, rt: &R, party: &mut Party, what: What<'_>) {
+        if matches!(&what, What::SlowConsumer(_)) {
+            party.note_ending(Ending::SlowConsumer);
+        }
         if self.level == LogLevel::None {
             return;
         }
@@ -335,6 +361,7 @@ impl<'a> ServerLog<'a> {
             },
             user: names.0,
             account: names.1,
+            program: party.program(),
             what,
             left_out: admitted.left_out,
         };
@@ -343,7 +370,13 @@ impl<'a> ServerLog<'a> {
 
     /// Tells what a connection's turn has noted, and notes in `party` who the connection is since then. Returns whether its client was
     /// told of an authorization that failed.
-    pub fn tell_noted<R: Wait + Clock>(&self, rt: &R, party: &mut Party, noted: Noted) -> bool {
+    pub fn tell_noted<R: Wait + Clock, E: GrantEnds>(
+        &self,
+        rt: &R,
+        party: &mut Party,
+        noted: Noted,
+        ends: &E,
+    ) -> bool {
         let mut has_failed = noted.is_gone;
         if noted.is_gone {
             self.tell_of(rt, party, What::Gone);
@@ -351,7 +384,7 @@ impl<'a> ServerLog<'a> {
         for answer in noted.answers.as_slice() {
             let entry = answer.get();
             has_failed = has_failed || matches!(&entry.outcome, Outcome::AuthViolation);
-            self.tell_entry(rt, party, entry);
+            self.tell_entry(rt, party, entry, ends);
         }
         self.tell_invalid(rt, party, noted.take_invalid());
         let left_out = noted.left_out();
@@ -378,16 +411,25 @@ impl<'a> ServerLog<'a> {
     }
 
     /// Tells an entry of a connection.
-    fn tell_entry<R: Wait + Clock>(&self, rt: &R, party: &mut Party, entry: &Entry) {
+    fn tell_entry<R: Wait + Clock, E: GrantEnds>(
+        &self,
+        rt: &R,
+        party: &mut Party,
+        entry: &Entry,
+        ends: &E,
+    ) {
         match &entry.outcome {
             Outcome::Connected => self.tell_connect(rt, party, entry),
             Outcome::AuthViolation => self.tell_failure(rt, party, entry),
-            Outcome::Denied(verdict) => self.tell_denial(rt, party, entry, *verdict),
+            Outcome::Denied(verdict) => self.tell_denial(rt, party, entry, *verdict, ends),
             Outcome::Published(_, met) => self.tell_unrouted(rt, party, entry, met.as_slice()),
             Outcome::Taken(_, _) => {
                 self.tell_of(rt, party, What::SlowConsumer(Slowness::OutboxFull))
             }
-            Outcome::Closed => self.tell_of(rt, party, What::Closed),
+            Outcome::Closed => {
+                let what = party.closed(entry.event.now);
+                self.tell_of(rt, party, what);
+            }
             _ => {}
         }
     }
@@ -403,6 +445,7 @@ impl<'a> ServerLog<'a> {
             party.account = account_of(user_named(&policy, Some(name.as_slice())));
             party.user = name.again().ok();
         }
+        party.note_begin(entry.event.now);
         if self.level == LogLevel::All {
             self.tell_of(rt, party, What::Connected);
         }
@@ -421,12 +464,13 @@ impl<'a> ServerLog<'a> {
     }
 
     /// Tells what a user's permissions have refused, by the entry of the policy in force at it.
-    fn tell_denial<R: Wait + Clock>(
+    fn tell_denial<R: Wait + Clock, E: GrantEnds>(
         &self,
         rt: &R,
         party: &mut Party,
         entry: &Entry,
         verdict: Verdict,
+        ends: &E,
     ) {
         let Some(admitted) = self.admit(rt, &mut party.rate) else {
             return;
@@ -436,26 +480,13 @@ impl<'a> ServerLog<'a> {
         match &entry.event.what {
             Command::Pub { message, .. } => {
                 let rule = text_of(self.alloc, entry_of(user, true, verdict));
-                let denial = Denial {
-                    command: "PUB",
-                    subject: Some(message.subject().bytes()),
-                    queue: None,
-                    sid: None,
-                    verdict,
-                    entry: bytes_of(&rule),
-                };
+                let grant = ends.grant_end(party.conn, message);
+                let denial = denied_message(message, verdict, bytes_of(&rule), grant);
                 self.put_of(rt, party, admitted, What::Denied(denial));
             }
             Command::Sub { subject, queue, .. } => {
                 let rule = text_of(self.alloc, entry_of(user, false, verdict));
-                let denial = Denial {
-                    command: "SUB",
-                    subject: Some(subject.get().bytes()),
-                    queue: queue_in(queue),
-                    sid: None,
-                    verdict,
-                    entry: bytes_of(&rule),
-                };
+                let denial = denied_subscription(subject.get(), queue, verdict, bytes_of(&rule));
                 self.put_of(rt, party, admitted, What::Denied(denial));
             }
             _ => {}
@@ -509,6 +540,7 @@ impl<'a> ServerLog<'a> {
             sid: Some(removed.sid.as_slice()),
             verdict: removed.verdict,
             entry: bytes_of(&rule),
+            grant: None,
         };
         self.put_of(rt, party, admitted, What::Removed(denial));
     }

@@ -2,7 +2,7 @@ ghost use Rattle.std.specs.Prelude.{◌≡◌};
 ghost use Rattle.std.specs.List.{list_any};
 ghost use Rattle.server_log.specs.Noting.{is_full, is_noted, noted_refusal, noted_stop, IsAdded, IsAnswerNoted, IsNoted, IsOfferNoted};
 
-use crate::lines::LogLevel;
+use crate::level::LogLevel;
 use base::NoMemory;
 use events::{Answer, Event, HubRefusal, InvalidFrame, Item, Outcome, PublishRefusal};
 use std::alloc::Global;

@@ -1,17 +1,17 @@
 //! What is written to connections, and when.
 use crate::worker::Worker;
 use server_connections::Drained;
-use server_port::Run;
-use server_port::gates::Gate;
 use server_socket::turns::Turn;
+use server_stats::Counting;
 use session_conn::Words;
 use std::sync::Wait;
 use std::time::Clock;
+use worker_port::WorkerPort;
 
 /// How many Takes a connection has before others are looked at.
 const TAKES: usize = 16;
 
-impl<'a, L: Run, R: Wait + Clock, G: Gate + Drop, W: Words + Drop> Worker<'a, L, R, G, W> {
+impl<'a, P: WorkerPort + Drop, R: Wait + Clock, W: Words + Drop> Worker<'a, P, R, W> {
     /// Drains a slice of the connections that are to be written to, in the order in which they came to be.
     pub(crate) fn drain_queued(&mut self) {
         for _ in 0..self.connections.flush.len() {
@@ -73,7 +73,14 @@ impl<'a, L: Run, R: Wait + Clock, G: Gate + Drop, W: Words + Drop> Worker<'a, L,
         };
         let most = it.due.next_take();
         self.port.begin_take(it.blocked.millis);
-        let turn = it.drain(&mut self.port, most, self.now);
+        let turn = if self.tally.is_on() {
+            let mut port = Counting::new(&mut self.port);
+            let turn = it.drain(&mut port, most, self.now);
+            self.tally.keep_turn(port.into_counts());
+            turn
+        } else {
+            it.drain(&mut self.port, most, self.now)
+        };
         if turn == Turn::Waits {
             self.now = self.state.now(self.rt);
         }
@@ -85,6 +92,7 @@ impl<'a, L: Run, R: Wait + Clock, G: Gate + Drop, W: Words + Drop> Worker<'a, L,
                 it.due.note_left(rest);
             }
         }
+        self.count_turn(key);
         self.tell_turn(key);
         if turn == Turn::Done {
             Drained::More

@@ -1,9 +1,7 @@
 //! How connections end, and how a worker does.
 use crate::worker::Worker;
 use mio::Events;
-use server_log::{Slowness, What};
-use server_port::Run;
-use server_port::gates::Gate;
+use server_log::Slowness;
 use server_socket::turns::Turn;
 use server_state::mail::millis;
 use server_state::pacing::Slice;
@@ -11,16 +9,18 @@ use session_conn::Words;
 use std::sync::Wait;
 use std::time::{Clock, Duration};
 use wire_write::ServerError;
+use worker_port::WorkerPort;
 
 /// How long the end of a server may take, in milliseconds.
 const GRACE: u64 = 2000;
 
-impl<'a, L: Run, R: Wait + Clock, G: Gate + Drop, W: Words + Drop> Worker<'a, L, R, G, W> {
+impl<'a, P: WorkerPort + Drop, R: Wait + Clock, W: Words + Drop> Worker<'a, P, R, W> {
     /// Closes a connection whose turn is over. Where the server closes it, its socket is to linger.
     pub(crate) fn close(&mut self, key: usize, turn: Turn) {
         if let Some(it) = self.connections.slab.get_mut(key) {
             it.is_to_linger = matches!(turn, Turn::Closed | Turn::Lost);
         }
+        self.note_ending(key, turn);
         self.end(key);
     }
 
@@ -34,7 +34,7 @@ impl<'a, L: Run, R: Wait + Clock, G: Gate + Drop, W: Words + Drop> Worker<'a, L,
         };
         if !it.is_over {
             it.tell_last(self.alloc, ServerError::SlowConsumer);
-            self.tell_of(key, What::SlowConsumer(Slowness::TooMuchWaits));
+            self.tell_slow(key, Slowness::TooMuchWaits);
             self.close(key, Turn::Closed);
         }
     }
@@ -42,7 +42,7 @@ impl<'a, L: Run, R: Wait + Clock, G: Gate + Drop, W: Words + Drop> Worker<'a, L,
     /// Ends a connection whose client reads nothing, and waits to be read, for ten seconds, if there is one.
     pub(crate) fn end_stuck(&mut self) {
         if let Some(key) = self.connections.next_stuck(self.now) {
-            self.tell_of(key, What::SlowConsumer(Slowness::ReadsNothing));
+            self.tell_slow(key, Slowness::ReadsNothing);
             self.close(key, Turn::Failed);
         }
     }

@@ -1,14 +1,13 @@
 //! What workers leave in each other's mailboxes.
 use crate::worker::Worker;
-use server_port::Run;
-use server_port::gates::Gate;
 use server_state::mail::{Arrival, Intake, Mail, owner_of};
 use session_conn::Words;
 use std::mem;
 use std::sync::Wait;
 use std::time::Clock;
+use worker_port::WorkerPort;
 
-impl<'a, L: Run, R: Wait + Clock, G: Gate + Drop, W: Words + Drop> Worker<'a, L, R, G, W> {
+impl<'a, P: WorkerPort + Drop, R: Wait + Clock, W: Words + Drop> Worker<'a, P, R, W> {
     /// Empties the worker's mailbox, and follows what was in it.
     pub(crate) fn take_in(&mut self) {
         let mailboxes = self.state.mailboxes;

@@ -1,17 +1,16 @@
 //! How connections begin, and which of them give way to new ones.
 use crate::accepting::Accepted;
 use crate::worker::Worker;
-use server_port::Run;
-use server_port::gates::Gate;
 use server_state::mail::Arrival;
 use session_conn::Words;
 use std::sync::Wait;
 use std::time::Clock;
+use worker_port::WorkerPort;
 
 /// How many connections are accepted before others are looked at.
 const ARRIVALS: usize = 256;
 
-impl<'a, L: Run, R: Wait + Clock, G: Gate + Drop, W: Words + Drop> Worker<'a, L, R, G, W> {
+impl<'a, P: WorkerPort + Drop, R: Wait + Clock, W: Words + Drop> Worker<'a, P, R, W> {
     /// Accepts what has come, as far as there is room, and deals the sockets out.
     pub(crate) fn accept(&mut self) {
         if !self.acceptor.begin(self.now) {
@@ -39,6 +38,7 @@ impl<'a, L: Run, R: Wait + Clock, G: Gate + Drop, W: Words + Drop> Worker<'a, L,
             self.state.note_closed();
             return;
         };
+        self.tally.forget(key);
         if let Some(turn) = self.connections.open(key) {
             self.after(key, turn);
         }

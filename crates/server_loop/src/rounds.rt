@@ -3,14 +3,13 @@ use crate::accepting::LISTENER;
 use crate::worker::{WAKER, Worker};
 use mio::Events;
 use mio::event::Event;
-use server_port::Run;
-use server_port::fault::ServeFault;
-use server_port::gates::Gate;
 use server_state::pacing::Slice;
 use session_conn::Words;
 use std::io;
 use std::sync::Wait;
 use std::time::{Clock, Duration};
+use worker_port::WorkerPort;
+use worker_port::fault::ServeFault;
 
 /// How many events of sockets one wait tells.
 const EVENTS: usize = 1024;
@@ -18,7 +17,7 @@ const EVENTS: usize = 1024;
 /// How many old entries of the history a worker that would sleep drops before it looks for work again.
 const SHED: usize = 1024;
 
-impl<'a, L: Run, R: Wait + Clock, G: Gate + Drop, W: Words + Drop> Worker<'a, L, R, G, W> {
+impl<'a, P: WorkerPort + Drop, R: Wait + Clock, W: Words + Drop> Worker<'a, P, R, W> {
     /// Works until the server stops.
     pub fn run(&mut self) -> Option<ServeFault> {
         let Ok(mut events) = Events::with_capacity(self.alloc, EVENTS) else {
@@ -59,6 +58,7 @@ impl<'a, L: Run, R: Wait + Clock, G: Gate + Drop, W: Words + Drop> Worker<'a, L,
         self.wait(events)?;
         self.end_lingering();
         self.end_stuck();
+        self.tell_stats();
         self.connections.look_after_held(self.now);
         self.try_again();
         self.accept();
@@ -83,7 +83,9 @@ impl<'a, L: Run, R: Wait + Clock, G: Gate + Drop, W: Words + Drop> Worker<'a, L,
     fn next_look(&self) -> u64 {
         let held = self.connections.next_look().unwrap_or(u64::MAX);
         let accepts = self.acceptor.due_at().unwrap_or(u64::MAX);
-        held.min(accepts).min(self.connections.lingers_until())
+        held.min(accepts)
+            .min(self.connections.lingers_until())
+            .min(self.tally.due_at())
     }
 
     /// Waits for sockets, and notes what they tell. The error is the system's, which can't tell.

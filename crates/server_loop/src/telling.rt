@@ -1,15 +1,13 @@
 //! What a worker tells the server's operator.
 use crate::worker::Worker;
-use events::{Answer, Outcome};
 use server_log::{Slowness, What};
-use server_port::Run;
-use server_port::gates::Gate;
 use server_socket::turns::Turn;
 use session_conn::Words;
 use std::sync::Wait;
 use std::time::Clock;
+use worker_port::WorkerPort;
 
-impl<'a, L: Run, R: Wait + Clock, G: Gate + Drop, W: Words + Drop> Worker<'a, L, R, G, W> {
+impl<'a, P: WorkerPort + Drop, R: Wait + Clock, W: Words + Drop> Worker<'a, P, R, W> {
     /// Tells what a connection's turn had that is to be told, if it had such.
     #[inline(always)]
     pub(crate) fn tell_turn(&mut self, key: usize) {
@@ -24,7 +22,7 @@ impl<'a, L: Run, R: Wait + Clock, G: Gate + Drop, W: Words + Drop> Worker<'a, L,
         let noted = self.port.noted().take();
         let log = self.state.log;
         if let Some(it) = self.connections.slab.get_mut(key) {
-            let has_failed = log.tell_noted(self.rt, &mut it.party, noted);
+            let has_failed = log.tell_noted(self.rt, &mut it.party, noted, &self.port);
             log.tell_errors(self.rt, &mut it.party, self.errors.as_slice(), has_failed);
         }
         self.errors.clear();
@@ -53,7 +51,7 @@ impl<'a, L: Run, R: Wait + Clock, G: Gate + Drop, W: Words + Drop> Worker<'a, L,
             } else {
                 Slowness::TakesNothing
             };
-            self.tell_of(key, What::SlowConsumer(why));
+            self.tell_slow(key, why);
         }
     }
 
@@ -61,29 +59,6 @@ impl<'a, L: Run, R: Wait + Clock, G: Gate + Drop, W: Words + Drop> Worker<'a, L,
     pub(crate) fn forget_party(&mut self, key: usize) {
         if let Some(it) = self.connections.slab.get(key) {
             self.state.log.forget(self.rt, &it.party);
-        }
-    }
-
-    /// Tells which subscriptions of the worker's connections were removed by these reloads.
-    pub(crate) fn tell_reloads(&mut self, reloads: Vec<Answer>) {
-        for answer in reloads.as_slice() {
-            self.tell_removed(answer);
-        }
-    }
-
-    fn tell_removed(&mut self, answer: &Answer) {
-        let entry = answer.get();
-        let Outcome::Reloaded { removed, .. } = &entry.outcome else {
-            return;
-        };
-        let log = self.state.log;
-        for one in removed.as_slice() {
-            let Some(key) = self.connections.key_of(one.conn) else {
-                continue;
-            };
-            if let Some(it) = self.connections.slab.get_mut(key) {
-                log.tell_removed(self.rt, &mut it.party, entry.epoch, one);
-            }
         }
     }
 }

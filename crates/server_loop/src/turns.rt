@@ -2,15 +2,15 @@
 use crate::worker::Worker;
 use server_connections::Reads;
 use server_log::What;
-use server_port::gates::Gate;
-use server_port::{Run, Why};
-use server_socket::ConnectionTurn;
 use server_socket::turns::Turn;
+use server_socket::{ConnectionTurn, is_fresh};
 use server_state::pacing::{Slice, batch};
+use server_stats::Counting;
 use session_conn::{Stall, Words};
 use std::mem;
 use std::sync::Wait;
 use std::time::Clock;
+use worker_port::{Why, WorkerPort};
 
 /// How many turns connections with something to read have in a round, and those that were cut short at most.
 const TURNS: usize = 16;
@@ -31,7 +31,7 @@ const TOO_MUCH: &[u8] = b"Authorization Violation";
 /// After how long a turn that could not be ended is tried again, in milliseconds.
 const RETRY: u64 = 10;
 
-impl<'a, L: Run, R: Wait + Clock, G: Gate + Drop, W: Words + Drop> Worker<'a, L, R, G, W> {
+impl<'a, P: WorkerPort + Drop, R: Wait + Clock, W: Words + Drop> Worker<'a, P, R, W> {
     /// Gives connections their turns of a round: first those with something to read, as far as the round's share of deliveries
     /// goes, and then those that were cut short, at least one. So who does little never waits for those who do much.
     pub(crate) fn take_turns(&mut self) {
@@ -79,25 +79,13 @@ impl<'a, L: Run, R: Wait + Clock, G: Gate + Drop, W: Words + Drop> Worker<'a, L,
         }
     }
 
-    /// Gives a connection one turn: frames that wait go on, or a piece is read. Then mail is left about what it made pending.
+    /// Gives a connection one turn, and follows what came of it. Mail is left about what it made pending.
     fn serve(&mut self, key: usize) {
         self.now = self.state.now(self.rt);
-        let Some(it) = self.connections.slab.get_mut(key) else {
+        let Some(served) = self.serve_turn(key) else {
             return;
         };
-        let buf = self.buf.as_mut_slice();
-        if buf.is_empty() {
-            return;
-        }
-        let has_passed = mem::replace(&mut it.has_passed, false);
-        self.port.begin_turn(has_passed);
-        let served = it.serve(
-            &mut self.port,
-            &mut self.words,
-            buf,
-            &mut self.errors,
-            self.now,
-        );
+        self.count_turn(key);
         self.connections.follow_writes(key);
         self.keep(served);
         self.tell_pending();
@@ -110,6 +98,31 @@ impl<'a, L: Run, R: Wait + Clock, G: Gate + Drop, W: Words + Drop> Worker<'a, L,
             Turn::Stalled(Stall::Held) => self.follow_held(key),
             _ => self.after(key, turn),
         }
+    }
+
+    /// Gives a connection one turn: frames that wait go on, or a piece is read.
+    fn serve_turn(&mut self, key: usize) -> Option<ConnectionTurn> {
+        let it = self.connections.slab.get_mut(key)?;
+        let buf = self.buf.as_mut_slice();
+        if buf.is_empty() {
+            return None;
+        }
+        let was_fresh = is_fresh(it.client.conn());
+        let has_passed = mem::replace(&mut it.has_passed, false);
+        self.port.begin_turn(has_passed);
+        let (words, errors) = (&mut self.words, &mut self.errors);
+        let served = if self.tally.is_on() {
+            let mut port = Counting::new(&mut self.port);
+            let served = it.serve(&mut port, words, buf, errors, self.now);
+            self.tally.keep_turn(port.into_counts());
+            served
+        } else {
+            it.serve(&mut self.port, words, buf, errors, self.now)
+        };
+        if was_fresh {
+            self.hear_client(key, served.read);
+        }
+        Some(served)
     }
 
     /// Counts a piece that was read, and what was buffered before it, where frames of it were entered or will be: the history

@@ -2,37 +2,36 @@ use crate::accepting::Acceptor;
 use mio::net::TcpListener;
 use mio::{Poll, Token};
 use server_connections::Connections;
-use server_port::gates::Gate;
-use server_port::{Access, Run, ServerPort, SharedHub};
-use server_state::mail::{Mail, OutgoingMail, ServerState};
+use server_state::mail::{Mail, ServerState};
 use server_state::pacing::{PIECE, Slice};
+use server_stats::Tally;
 use session_conn::Words;
 use std::alloc::Global;
 use std::sync::Wait;
+use worker_port::WorkerPort;
 
 /// The token of a worker's waker. Connections have those of their keys.
 pub const WAKER: Token = Token(usize::MAX);
 
-/// What a worker begins with: its number, its access to the hub, where the words of its messages come from, its way to wait
-/// for sockets, and the listener if it accepts connections.
+/// What a worker begins with: its number, where the words of its messages come from, its way to wait for sockets, and the
+/// listener if it accepts connections.
 #[derive(Drop)]
-pub struct Start<L: Run, G: Drop, W: Drop> {
+pub struct Start<W: Drop> {
     pub index: usize,
-    pub access: Access<L, G>,
     pub words: W,
     pub poll: Poll,
     pub listener: Option<TcpListener>,
 }
 
 /// One worker: its connections, and its port to the hub.
-pub struct Worker<'a, L: Run, R: Wait, G: Gate + Drop, W: Words + Drop> {
+pub struct Worker<'a, P: WorkerPort + Drop, R: Wait, W: Words + Drop> {
     pub(crate) rt: &'a R,
     pub(crate) alloc: Global,
     pub(crate) index: usize,
     pub(crate) state: &'a ServerState<'a>,
     pub(crate) poll: Poll,
     pub(crate) acceptor: Acceptor,
-    pub(crate) port: ServerPort<'a, L, R, G>,
+    pub(crate) port: P,
     pub(crate) words: W,
     pub(crate) connections: Connections,
     /// What may still be drained before the sockets are looked at again.
@@ -48,9 +47,11 @@ pub struct Worker<'a, L: Run, R: Wait, G: Gate + Drop, W: Words + Drop> {
     pub(crate) try_at: u64,
     /// Whether others know that it sleeps, and will wake it.
     pub(crate) sleeps: bool,
+    /// What it counts for the server's operator.
+    pub(crate) tally: Tally,
 }
 
-impl<'a, L: Run, R: Wait, G: Gate + Drop, W: Words + Drop> Drop for Worker<'a, L, R, G, W> {
+impl<'a, P: WorkerPort + Drop, R: Wait, W: Words + Drop> Drop for Worker<'a, P, R, W> {
     fn drop(self) {
         let Self {
             rt: _,
@@ -70,21 +71,9 @@ impl<'a, L: Run, R: Wait, G: Gate + Drop, W: Words + Drop> Drop for Worker<'a, L
             now: _,
             try_at: _,
             sleeps: _,
+            tally: _,
         } = self;
     }
-}
-
-/// Returns a worker's port to the hub. Without memory it returns `None`.
-fn port_of<'a, L: Run, R: Wait, G: Gate + Drop>(
-    rt: &'a R,
-    alloc: Global,
-    shared: &'a SharedHub<L>,
-    state: &'a ServerState<'a>,
-    index: usize,
-    access: Access<L, G>,
-) -> Option<ServerPort<'a, L, R, G>> {
-    let outgoing = OutgoingMail::new(alloc, state.mailboxes.len(), Some(index))?;
-    Some(ServerPort::new(rt, alloc, shared, state, access, outgoing))
 }
 
 /// Returns a buffer for a piece. Without memory it returns `None`.
@@ -94,24 +83,22 @@ fn piece_buffer(alloc: Global) -> Option<Vec<u8>> {
     Some(buf)
 }
 
-impl<'a, L: Run, R: Wait, G: Gate + Drop, W: Words + Drop> Worker<'a, L, R, G, W> {
-    /// Returns a worker with no connection. Without memory it returns `None`.
+impl<'a, P: WorkerPort + Drop, R: Wait, W: Words + Drop> Worker<'a, P, R, W> {
+    /// Returns a worker with no connection, over its port to the hub. Without memory it returns `None`.
     pub fn new(
         rt: &'a R,
         alloc: Global,
-        shared: &'a SharedHub<L>,
         state: &'a ServerState<'a>,
-        start: Start<L, G, W>,
-    ) -> Option<Worker<'a, L, R, G, W>> {
+        port: P,
+        start: Start<W>,
+    ) -> Option<Worker<'a, P, R, W>> {
         let buf = piece_buffer(alloc)?;
         let Start {
             index,
-            access,
             words,
             poll,
             listener,
         } = start;
-        let port = port_of(rt, alloc, shared, state, index, access)?;
         Some(Worker {
             rt,
             alloc,
@@ -130,6 +117,7 @@ impl<'a, L: Run, R: Wait, G: Gate + Drop, W: Words + Drop> Worker<'a, L, R, G, W
             now: 0,
             try_at: 0,
             sleeps: false,
+            tally: Tally::new(alloc, state.stats().is_some()),
         })
     }
 }

@@ -2,7 +2,7 @@
 use Rattle.std.proofs.Common.{◌≡◌, ◌∙◌, ◌++◌, ◌∷◌, ◌<◌, ◌+◌, [], ℕ, List, take, length, get_or, ap, refl, sym}
 use Rattle.std.proofs.lemmas.List.{take_more}
 use Rattle.events.specs.declared.answer.Entry.{Entry}
-use Rattle.server_port.specs.declared.course.Course.{Course}
+use Rattle.worker_port.specs.declared.course.Course.{Course}
 use Rattle.server_port.specs.Courses.{all_followed, followed}
 
 one_more : (entries : List Entry) (entry : Entry) (c : Course) → all_followed (entries ++ entry ∷ []) c ≡ followed entry (all_followed entries c)

@@ -14,7 +14,7 @@ use Rattle.server_log.specs.declared.noted.Noted.{Noted}
 use Rattle.server_port.specs.Ends.{goes_on}
 use Rattle.server_port.specs.Holds.{AreAnswersNoted, AreHolds, AreHoldsPassed, IsEndNoted, IsHoldPassed, IsRunNoted, answer_points, end_points, held_back, hold_points, most, read_points, run_points}
 use Rattle.server_port.specs.Points.{ArePassed, Passes}
-use Rattle.server_port.specs.declared.course.Why.{Why}
+use Rattle.worker_port.specs.declared.course.Why.{Why}
 use Rattle.server_port.proofs.Passing.{passed_once_more, passed_then}
 use Rattle.shared_waits.specs.runs.Runs.{Came, Draws, IsRun, Offers, StaysBelow, told_end}
 use Rattle.shared_waits.proofs.runs.Runs.{run_along}

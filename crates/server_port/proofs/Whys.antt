@@ -8,8 +8,8 @@ use Rattle.events.specs.declared.run.RunEnd.TheVariants as run
 use Rattle.server_port.specs.Courses.{all_followed, followed, refused, why_of}
 use Rattle.server_port.specs.Ends.{goes_on}
 use Rattle.server_port.specs.Holds.{IsWhy}
-use Rattle.server_port.specs.declared.course.Course.{Course}
-use Rattle.server_port.specs.declared.course.Why.{Why}
+use Rattle.worker_port.specs.declared.course.Course.{Course}
+use Rattle.worker_port.specs.declared.course.Why.{Why}
 
 pub all_followed_why : (entries : List Entry) (c : Course) → (all_followed entries c).why ≡ c.why
 unfolding all_followed

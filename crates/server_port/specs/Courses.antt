@@ -6,9 +6,9 @@ use Rattle.events.specs.declared.refusal.HubRefusal.{HubRefusal}
 use Rattle.events.specs.declared.refusal.PublishRefusal.{PublishRefusal}
 use Rattle.events.specs.declared.refusal.PublishRefusal.TheVariants.{By, Held}
 use Rattle.server_state.specs.mail.Work.{work}
-use Rattle.server_port.specs.declared.course.Course.{Course}
-use Rattle.server_port.specs.declared.course.Why.{Why}
-use Rattle.server_port.specs.declared.course.Why.TheVariants.{Receiver, Slow, Share}
+use Rattle.worker_port.specs.declared.course.Course.{Course}
+use Rattle.worker_port.specs.declared.course.Why.{Why}
+use Rattle.worker_port.specs.declared.course.Why.TheVariants.{Receiver, Slow, Share}
 
 -- an event has its answer, which is work of the round's share
 abbrev pub followed : Entry → Course → Course

@@ -10,7 +10,7 @@ use Rattle.server_port.specs.declared.gates.gate.Point.TheVariants.{FrameRead, A
 use Rattle.server_log.specs.Noting.{IsAnswerNoted, noted_stop}
 use Rattle.server_log.specs.declared.noted.Noted.{Noted}
 use Rattle.server_port.specs.Points.{ArePassed, Passes, answered_if}
-use Rattle.server_port.specs.declared.course.Why.{Why}
+use Rattle.worker_port.specs.declared.course.Why.{Why}
 use Rattle.shared_waits.specs.runs.Runs.{Came, Draws, IsRun, Offers, told_end}
 
 -- ---- what is noted

@@ -3,4 +3,3 @@ pub mod Histories
 pub mod Ends
 pub mod Points
 pub mod Holds
-pub mod fault

@@ -2,7 +2,7 @@
 use Rattle.std.specs.Prelude.{◌≡◌, ◌∷◌, ◌||◌, [], List, Bool, Option, None, Some, not}
 use Rattle.server_port.specs.declared.gates.gate.Point.{Point}
 use Rattle.server_port.specs.declared.gates.gate.Point.TheVariants.{FrameRead, Answered}
-use Rattle.server_port.specs.declared.course.Why.{Why}
+use Rattle.worker_port.specs.declared.course.Why.{Why}
 
 -- a gate, a point, whether the gate lets it pass, and the gate then
 abbrev pub Passes : Type 0 → Type 1

@@ -1,7 +1,6 @@
 //! How a port enters events.
 ghost use Rattle.std.specs.Prelude.{◌≡◌};
 
-use crate::course::Why;
 use crate::gates::{Gate, Point};
 use crate::port::ServerPort;
 use crate::runs::goes_on;
@@ -13,6 +12,7 @@ use shared_hub::Run;
 use shared_waits::runs::Posts;
 use std::collections::VecDeque;
 use std::sync::Wait;
+use worker_port::Why;
 
 impl<L: Run, R: Wait, G: Gate + Drop> ServerPort<'_, L, R, G> {
     ghost use Rattle.std.specs.Prelude.{◌+◌, ◌≤◌, IfErr, OnErr, is_some, true};
@@ -95,11 +95,11 @@ impl<L: Run, R: Wait, G: Gate + Drop> ServerPort<'_, L, R, G> {
             self.rt,
             &mut self.seat,
             event,
-            self.refused,
+            self.stall_ms,
             &mut self.context.told,
         ) {
             Ok(answer) => {
-                self.refused = 0;
+                self.stall_ms = 0;
                 let _ = self.follow(&answer, 0);
                 self.free();
                 Ok(answer)
@@ -216,7 +216,7 @@ impl<L: Run, R: Wait, G: Gate + Drop> Port for ServerPort<'_, L, R, G> {
     ghost use Rattle.events.specs.declared.refusal.PublishRefusal.TheVariants.{Held};
     ghost use Rattle.server_port.specs.Courses.{entered, offered};
     ghost use Rattle.server_port.specs.Holds.{AreHoldsPassed, IsRunNoted, IsWhy, held_back};
-    ghost use Rattle.server_port.specs.declared.course.Why.TheVariants.{Share};
+    ghost use Rattle.worker_port.specs.declared.course.Why.TheVariants.{Share};
     ghost use Rattle.server_port.specs.Points.{ArePassed, offer_points};
     ghost use Rattle.server_port.specs.declared.gates.gate.Point.TheVariants.{Answered, FrameRead};
     ghost use Rattle.server_log.specs.Noting.{IsNoted, IsOfferNoted};
@@ -275,6 +275,7 @@ impl<L: Run, R: Wait, G: Gate + Drop> Port for ServerPort<'_, L, R, G> {
 
     /// Offers the messages in holds of the hub's lock, each of which takes as many as may enter in it. Once the round's share is
     /// spent, the hub isn't asked.
+    #[inline(always)]
     fn publish<W: Words>(
         &mut self,
         conn: u64,

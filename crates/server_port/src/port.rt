@@ -1,6 +1,5 @@
 ghost use Rattle.std.specs.Prelude.{◌≡◌};
 
-use crate::course::{Course, Why};
 use crate::gates::{Gate, Point};
 use server_log::Noted;
 use server_state::history::{Kept, Rotation};
@@ -9,6 +8,7 @@ use shared_hub::{Run, RunContext, Seat, SharedHub};
 use std::alloc::Global;
 use std::mem;
 use std::sync::Wait;
+use worker_port::{Course, Why, WorkerPort};
 
 /// A thread's access to the hub: its seat, and the gate that each of its events passes.
 #[derive(Drop)]
@@ -35,7 +35,7 @@ pub struct ServerPort<'a, L: Run, R: Wait, G: Gate + Drop> {
     pub(crate) context: RunContext,
     pub(crate) course: Course,
     /// For how many milliseconds the socket took nothing whose connection's Take comes next.
-    pub(crate) refused: u64,
+    pub(crate) stall_ms: u64,
 }
 
 impl<L: Run, R: Wait, G: Gate + Drop> Drop for ServerPort<'_, L, R, G> {
@@ -53,17 +53,14 @@ impl<L: Run, R: Wait, G: Gate + Drop> Drop for ServerPort<'_, L, R, G> {
             noted: _,
             context: _,
             course: _,
-            refused: _,
+            stall_ms: _,
         } = self;
     }
 }
 
 impl<'a, L: Run, R: Wait, G: Gate + Drop> ServerPort<'a, L, R, G> {
-    ghost use Rattle.std.specs.Prelude.{◌≡◌, ◌||◌, ◌<◌, ◌≤◌, ◌+◌, Bool, None, Option, false, max, nat_eq, not};
-    ghost use Rattle.server_state.specs.declared.history.kept.Added.{Added};
-    ghost use Rattle.server_state.specs.history.Bytes.{IsCounted};
-    ghost use Rattle.server_state.specs.history.Rotating.{but_last, fresh};
-    ghost use Rattle.server_port.specs.Histories.{once, passed, tried};
+    ghost use Rattle.std.specs.Prelude.{◌≡◌, ◌||◌, Bool, None, false, not};
+    ghost use Rattle.server_state.specs.history.Rotating.{fresh};
     ghost use Rattle.server_port.specs.Points.{ArePassed, answered_if};
 
     /// Makes the port of a thread with such access. It has no share yet.
@@ -99,120 +96,8 @@ impl<'a, L: Run, R: Wait, G: Gate + Drop> ServerPort<'a, L, R, G> {
                 has_passed: false,
                 has_entered: false,
             },
-            refused: 0,
+            stall_ms: 0,
         }
-    }
-
-    /// Whether the gate has let something pass no more.
-    pub fn is_spent(&self) -> bool
-        ensures { result ≡ self.now.is_spent }
-    {
-        self.is_spent
-    }
-
-    /// What is to be left in the workers' mailboxes.
-    pub fn outgoing(&mut self) -> &mut OutgoingMail {
-        &mut self.outgoing
-    }
-
-    /// What is to be told of the latest events.
-    pub fn noted(&mut self) -> &mut Noted {
-        &mut self.noted
-    }
-
-    /// A round begins, or goes on: at least so many deliveries may enter in it.
-    pub fn allow(&mut self, deliveries: usize)
-        ensures course { self.new.course ≡ record self.old.course { share = max self.old.course.share deliveries } }
-        ensures seat { self.new.seat ≡ self.old.seat }
-    {
-        self.course.share = self.course.share.max(deliveries);
-    }
-
-    /// Whether nothing is left of the round's share.
-    pub fn has_no_share(&self) -> bool
-        ensures { result ≡ nat_eq self.now.course.share 0 }
-    {
-        self.course.share == 0
-    }
-
-    /// A connection's turn begins. `has_passed` is whether it has had what waited for it, so that it needn't wait again.
-    pub fn begin_turn(&mut self, has_passed: bool)
-        ensures course { self.new.course ≡ record { share = self.old.course.share; why = None; has_passed = has_passed; has_entered = false } }
-        ensures seat { self.new.seat ≡ self.old.seat }
-    {
-        self.course.why = None;
-        self.course.has_passed = has_passed;
-        self.course.has_entered = false;
-        self.rotation.drop_old(self.kept);
-    }
-
-    /// Whether an event has been entered in this turn.
-    pub fn has_entered(&self) -> bool
-        ensures { result ≡ self.now.course.has_entered }
-    {
-        self.course.has_entered
-    }
-
-    /// Counts bytes that entries keep beside their own, and rotates the history where they are too many.
-    pub fn keep(&mut self, bytes: usize)
-        ensures counted { (told : Option Added) × IsCounted self.old.rotation.uncounted bytes told self.new.rotation.uncounted × (self.new.rotation.tries ≡ tried (passed told) self.old.rotation.tries) × (self.new.seat.rotations ≤ self.old.seat.rotations + once (passed told)) }
-        ensures course { self.new.course ≡ self.old.course }
-        ensures count { self.new.seat.count ≡ self.old.seat.count }
-    {
-        let _ = self.count_bytes(bytes as u64);
-    }
-
-    /// Why the latest message of the turn was held back, if one was.
-    pub fn why(&self) -> Option<Why>
-        ensures { result ≡ self.now.course.why }
-    {
-        self.course.why
-    }
-
-    /// How many deliveries wait for a connection, as the hub has it.
-    pub fn waiting(&self, conn: u64) -> usize {
-        self.shared.waiting(self.rt, conn)
-    }
-
-    /// A Take comes next, of a connection whose socket took nothing for so many milliseconds since its last one.
-    pub fn begin_take(&mut self, refused: u64)
-        ensures refused { self.new.refused ≡ refused }
-        ensures none { self.new.context.told.rest ≡ None }
-        ensures course { self.new.course ≡ self.old.course }
-        ensures seat { self.new.seat ≡ self.old.seat }
-    {
-        self.context.told.rest = None;
-        self.refused = refused;
-    }
-
-    /// How many of these milliseconds no event has told the hub.
-    pub fn untold(&mut self) -> u64
-        ensures refused { result ≡ self.old.refused }
-        ensures none { self.new.refused ≡ 0 }
-        ensures course { self.new.course ≡ self.old.course }
-        ensures seat { self.new.seat ≡ self.old.seat }
-    {
-        mem::replace(&mut self.refused, 0)
-    }
-
-    /// How many deliveries waited for a connection behind the latest Take, if that wasn't asked since.
-    pub fn take_rest(&mut self) -> Option<usize>
-        ensures rest { result ≡ self.old.context.told.rest }
-        ensures none { self.new.context.told.rest ≡ None }
-        ensures course { self.new.course ≡ self.old.course }
-        ensures seat { self.new.seat ≡ self.old.seat }
-    {
-        self.context.told.rest.take()
-    }
-
-    /// Drops so many of the entries that were handed out, or all. Answers whether some are left. Who rests does so, since
-    /// without events none would go.
-    pub fn shed(&mut self, most: usize) -> bool
-        ensures left { self.new.rotation ≡ record self.old.rotation { spent = but_last most self.old.rotation.spent } }
-        ensures course { self.new.course ≡ self.old.course }
-        ensures seat { self.new.seat ≡ self.old.seat }
-    {
-        self.rotation.shed(most)
     }
 
     /// Passes a point. Where the gate lets it pass no more, that is noted for good.
@@ -243,5 +128,118 @@ impl<'a, L: Run, R: Wait, G: Gate + Drop> ServerPort<'a, L, R, G> {
             None => self.pass(Point::Answered),
             Some(_) => {}
         }
+    }
+}
+
+impl<L: Run, R: Wait, G: Gate + Drop> WorkerPort for ServerPort<'_, L, R, G> {
+    ghost use Rattle.std.specs.Prelude.{◌≡◌, ◌≤◌, ◌+◌, Bool, None, Option, false, max, nat_eq};
+    ghost use Rattle.server_state.specs.declared.history.kept.Added.{Added};
+    ghost use Rattle.server_state.specs.history.Bytes.{IsCounted};
+    ghost use Rattle.server_state.specs.history.Rotating.{but_last};
+    ghost use Rattle.server_port.specs.Histories.{once, passed, tried};
+
+    ghost course = { λ port. port.course };
+
+    ghost spent = { λ port. port.is_spent };
+
+    ghost stall_ms = { λ port. port.stall_ms };
+
+    ghost rest = { λ port. port.context.told.rest };
+
+    fn is_spent(&self) -> bool
+        ensures spent { result ≡ self.now.is_spent }
+    {
+        self.is_spent
+    }
+
+    fn outgoing(&mut self) -> &mut OutgoingMail {
+        &mut self.outgoing
+    }
+
+    fn noted(&mut self) -> &mut Noted {
+        &mut self.noted
+    }
+
+    fn allow(&mut self, deliveries: usize)
+        ensures course { self.new.course ≡ record self.old.course { share = max self.old.course.share deliveries } }
+        ensures seat { self.new.seat ≡ self.old.seat }
+    {
+        self.course.share = self.course.share.max(deliveries);
+    }
+
+    fn has_no_share(&self) -> bool
+        ensures share { result ≡ nat_eq self.now.course.share 0 }
+    {
+        self.course.share == 0
+    }
+
+    fn begin_turn(&mut self, has_passed: bool)
+        ensures course { self.new.course ≡ record { share = self.old.course.share; why = None; has_passed = has_passed; has_entered = false } }
+        ensures seat { self.new.seat ≡ self.old.seat }
+    {
+        self.course.why = None;
+        self.course.has_passed = has_passed;
+        self.course.has_entered = false;
+        self.rotation.drop_old(self.kept);
+    }
+
+    fn has_entered(&self) -> bool
+        ensures entered { result ≡ self.now.course.has_entered }
+    {
+        self.course.has_entered
+    }
+
+    fn keep(&mut self, bytes: usize)
+        ensures counted { (told : Option Added) × IsCounted self.old.rotation.uncounted bytes told self.new.rotation.uncounted × (self.new.rotation.tries ≡ tried (passed told) self.old.rotation.tries) × (self.new.seat.rotations ≤ self.old.seat.rotations + once (passed told)) }
+        ensures course { self.new.course ≡ self.old.course }
+        ensures count { self.new.seat.count ≡ self.old.seat.count }
+    {
+        let _ = self.count_bytes(bytes as u64);
+    }
+
+    fn why(&self) -> Option<Why>
+        ensures why { result ≡ self.now.course.why }
+    {
+        self.course.why
+    }
+
+    fn waiting(&self, conn: u64) -> usize {
+        self.shared.waiting(self.rt, conn)
+    }
+
+    fn begin_take(&mut self, millis: u64)
+        ensures stall { self.new.stall_ms ≡ millis }
+        ensures none { self.new.context.told.rest ≡ None }
+        ensures course { self.new.course ≡ self.old.course }
+        ensures seat { self.new.seat ≡ self.old.seat }
+    {
+        self.context.told.rest = None;
+        self.stall_ms = millis;
+    }
+
+    fn untold(&mut self) -> u64
+        ensures stall { result ≡ self.old.stall_ms }
+        ensures none { self.new.stall_ms ≡ 0 }
+        ensures course { self.new.course ≡ self.old.course }
+        ensures seat { self.new.seat ≡ self.old.seat }
+    {
+        mem::replace(&mut self.stall_ms, 0)
+    }
+
+    fn take_rest(&mut self) -> Option<usize>
+        ensures rest { result ≡ self.old.context.told.rest }
+        ensures none { self.new.context.told.rest ≡ None }
+        ensures course { self.new.course ≡ self.old.course }
+        ensures seat { self.new.seat ≡ self.old.seat }
+    {
+        self.context.told.rest.take()
+    }
+
+    fn shed(&mut self, most: usize) -> bool
+        ensures left { self.new.rotation ≡ record self.old.rotation { spent = but_last most self.old.rotation.spent } }
+        ensures course { self.new.course ≡ self.old.course }
+        ensures seat { self.new.seat ≡ self.old.seat }
+    {
+        self.rotation.shed(most)
     }
 }

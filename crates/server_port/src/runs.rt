@@ -2,7 +2,6 @@
 ghost use Rattle.std.specs.Prelude.{◌≡◌};
 ghost use Rattle.server_port.specs.Ends.{goes_on};
 
-use crate::course::Why;
 use crate::gates::{Gate, Point};
 use crate::port::ServerPort;
 use events::{Answer, Event, HubRefusal, Message, PublishRefusal, RunEnd, Words};
@@ -11,6 +10,7 @@ use shared_waits::runs::{Posts, was_published, word_of};
 use std::collections::VecDeque;
 use std::mem;
 use std::sync::Wait;
+use worker_port::Why;
 
 /// How many messages are offered in one hold of the lock, at most.
 const MOST_MESSAGES: usize = 64;
@@ -44,11 +44,12 @@ impl<L: Run, R: Wait, G: Gate + Drop> ServerPort<'_, L, R, G> {
     ghost use Rattle.server_port.specs.Ends.{IsEnded, IsOfferedAgain};
     ghost use Rattle.server_port.specs.Holds.{AreAnswersNoted, IsEndNoted, IsHoldPassed, IsRunNoted, IsWhy, answer_points, end_points, held_back, read_points};
     ghost use Rattle.server_port.specs.Points.{ArePassed};
-    ghost use Rattle.server_port.specs.declared.course.Why.TheVariants.{Share};
+    ghost use Rattle.worker_port.specs.declared.course.Why.TheVariants.{Share};
     ghost use Rattle.shared_hub.specs.Entering.{IsOfferedBy, IsPostedBy};
 
     /// Offers the first of some messages, and those behind it as far as they may enter in the same hold of the lock. Once the
     /// round's share is spent, the hub isn't asked.
+    #[inline(always)]
     pub(crate) fn publish_some<W: Words>(
         &mut self,
         posts: Posts,

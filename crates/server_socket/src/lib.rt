@@ -10,6 +10,7 @@ mod fresh;
 mod heard;
 mod queue;
 mod reading;
+mod saying;
 pub mod turns;
 mod writing;
 

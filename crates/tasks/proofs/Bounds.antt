@@ -39,15 +39,17 @@ no_check : (folder : Option Text) (rows : List Row) (o : ServeOptions) → IsChe
 no_check None rows o h = no_file (checking rows) h.0 o h.1
 no_check (Some folder) rows o h = let bad : invocation.Serve o ≡ invocation.Split h.0 = h.1 in absurd (cc)
 
-by_serving : (serves explains checks : Bool) (rows : List Row) (o : ServeOptions) → IsInvokedIf serves explains checks rows (invocation.Serve o) → AreServable o
-by_serving true explains checks rows o h = by_options rows o h
-by_serving false true checks rows o h = absurd (no_question _ rows o h)
-by_serving false false true rows o h = absurd (no_check _ rows o h)
-by_serving false false false rows o h = absurd (cc)
+by_serving : (serves explains checks compares : Bool) (rows : List Row) (o : ServeOptions) →
+    IsInvokedIf serves explains checks compares rows (invocation.Serve o) → AreServable o
+by_serving true explains checks compares rows o h = by_options rows o h
+by_serving false true checks compares rows o h = absurd (no_question _ rows o h)
+by_serving false false true compares rows o h = absurd (no_check _ rows o h)
+by_serving false false false true rows o h = absurd h
+by_serving false false false false rows o h = absurd (cc)
 
 by_found : (found : Option (Text × List Row)) (o : ServeOptions) → IsFound found (invocation.Serve o) → AreServable o
 by_found None o h = absurd h
-by_found (Some found) o h = by_serving _ _ _ found.1 o h.1
+by_found (Some found) o h = by_serving _ _ _ _ found.1 o h.1
 
 by_answer : (kinds : Kinds) (found : Option (Text × List Row)) (o : ServeOptions) → IsReading kinds found (Ok (invocation.Serve o)) → AreServable o
 by_answer kinds found o (inl h) = by_found found o h.1
@@ -61,6 +63,7 @@ by_reading : (kinds : Kinds) (found : Option (Text × List Row)) (read : Result 
 by_reading kinds found (Ok (invocation.Serve p)) source sink errors o h r = subst AreServable (same_options o p r.0) (by_answer kinds found p h)
 by_reading kinds found (Ok (invocation.OnFile task file)) source sink errors o h r = absurd (cc)
 by_reading kinds found (Ok (invocation.Split options)) source sink errors o h r = absurd (cc)
+by_reading kinds found (Ok (invocation.Compare options)) source sink errors o h r = absurd (cc)
 by_reading kinds found (Ok (invocation.Task task)) source sink errors o h r = absurd r
 by_reading kinds found (Err fault) source sink errors o h r = by_fault fault r
   where

@@ -81,14 +81,16 @@ abbrev pub IsEnded : (ℕ → Type 0) → Ran → Type 0
 IsEnded P (ran.Ended status) = P status
 IsEnded P (ran.OnFile task file) = ⊥
 IsEnded P (ran.Split options) = ⊥
+IsEnded P (ran.Compare options) = ⊥
 IsEnded P (ran.Serve options) = ⊥
 
--- a task is done; where it is to read a file, or parts are to be written, or clients are to be served, nothing is done yet; a wrong line is told on the error sink, with
+-- a task is done; where it is to read a file, or parts are to be written, policies to be compared, or clients are to be served, nothing is done yet; a wrong line is told on the error sink, with
 -- status 2, and want of memory with status 1
 abbrev pub IsReadingRun : Result Invocation WordsFault → Reads → Writes → Writes → Ran → Type 0
 IsReadingRun (Ok (invocation.Task task)) source sink errors r = IsEnded (IsTaskRun task source sink errors) r
 IsReadingRun (Ok (invocation.OnFile task file)) source sink errors r = (r ≡ ran.OnFile task file) × IsUnread source × IsUnwritten sink × IsUnwritten errors
 IsReadingRun (Ok (invocation.Split options)) source sink errors r = (r ≡ ran.Split options) × IsUnread source × IsUnwritten sink × IsUnwritten errors
+IsReadingRun (Ok (invocation.Compare options)) source sink errors r = (r ≡ ran.Compare options) × IsUnread source × IsUnwritten sink × IsUnwritten errors
 IsReadingRun (Ok (invocation.Serve options)) source sink errors r = (r ≡ ran.Serve options) × IsUnread source × IsUnwritten sink × IsUnwritten errors
 IsReadingRun (Err (WrongLine text)) source sink errors r = IsUnwritten sink × IsEnded (IsMistake 2 (string_bytes text) errors) r
 IsReadingRun (Err NoMemory) source sink errors r = IsUnwritten sink × IsEnded (IsMistake 1 (codes "no memory\n") errors) r

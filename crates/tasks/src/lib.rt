@@ -1,5 +1,5 @@
-//! Does what the words of a command line ask for, and tells what came of it (docs/SCRIPT.md, "Statuses"). It serves nobody:
-//! `natsd` starts a server.
+//! Does what the words of a command line ask for, and tells what came of it (docs/SCRIPT.md, "Statuses"). It knows no socket
+//! and no thread: `natsd` starts a server.
 #![tactic(auto)]
 
 mod answer;
@@ -12,4 +12,5 @@ mod status;
 
 pub use fault::TaskFault;
 pub use playing::play;
+pub use policy_walk::ConfigFault;
 pub use status::{Ran, Start, StartFault, run, run_and_tell};

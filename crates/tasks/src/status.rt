@@ -12,7 +12,9 @@ use crate::explaining::explain;
 use crate::fault::TaskFault;
 use crate::parting::tell_sets;
 use crate::playing::play;
-use command_line::{Invocation, ServeOptions, SplitOptions, Task, WordsFault, read_words};
+use command_line::{
+    CompareOptions, Invocation, ServeOptions, SplitOptions, Task, WordsFault, read_words,
+};
 use devices::{Sink, Source, write_all};
 use std::alloc::Global;
 use std::convert::AsStr;
@@ -64,6 +66,8 @@ pub enum Ran {
     OnFile(Task, String),
     /// The parts of a policy are to be written. Nothing was read or written.
     Split(SplitOptions),
+    /// Two policies are to be compared. Nothing was read or written.
+    Compare(CompareOptions),
     /// Clients are to be served. Nothing was read or written.
     Serve(ServeOptions),
 }
@@ -137,10 +141,12 @@ pub fn run_task<R: Source, W: Sink>(
     match task {
         Task::Play => play(alloc, keys, source, sink),
         Task::Check => check(alloc, source, sink),
+        Task::Strict => check(alloc, source, sink),
         Task::Sets => tell_sets(alloc, source, sink),
         Task::Explain(question) => explain(alloc, question, source, sink),
         Task::BadKind => show("bad kind\n", 2, sink),
         Task::BadLog => show("bad log\n", 2, sink),
+        Task::BadKeepalive => show("bad keepalive\n", 2, sink),
         Task::Help(text) => show(text.as_str(), 0, sink),
         Task::Version(text) => show(text.as_str(), 0, sink),
     }
@@ -167,7 +173,7 @@ pub fn run_and_tell<R: Source, W: Sink, E: Sink>(
     }
 }
 
-/// Does what words ask for, unless they ask to serve, or to write the parts of a policy.
+/// Does what words ask for, unless they ask to serve, to compare two policies, or to write the parts of one.
 fn run_words<S: AsStr, R: Source, W: Sink, E: Sink>(
     alloc: Global,
     keys: RandomState,
@@ -188,6 +194,7 @@ fn run_words<S: AsStr, R: Source, W: Sink, E: Sink>(
             }
             Invocation::OnFile(task, file) => Ran::OnFile(task, file),
             Invocation::Split(options) => Ran::Split(options),
+            Invocation::Compare(options) => Ran::Compare(options),
             Invocation::Serve(options) => Ran::Serve(options),
         },
         Err(fault) => match fault {
@@ -197,8 +204,8 @@ fn run_words<S: AsStr, R: Source, W: Sink, E: Sink>(
     }
 }
 
-/// The program: does what the words of its command line ask for, and returns its status; or hands out the options of `serve`
-/// or of `check --split`, or a task with the name of the file that it is to read, before anything is read or written.
+/// The program: does what the words of its command line ask for, and returns its status; or hands out the options of `serve`,
+/// of `compare` or of `check --split`, or a task with the name of the file that it is to read, before anything is read or written.
 ///
 /// The status is the task's, with nothing on the error sink. A fault of the task has status 1, and so has want
 /// of memory for the words or of random keys; a wrong line, or a word that isn't UTF-8, has status 2. Each is told on

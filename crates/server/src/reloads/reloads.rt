@@ -5,7 +5,6 @@ use events::{Answer, Command, Event, HubRefusal, Outcome};
 use lines::reload_lines::write_reload;
 use policy_ready::Ready;
 use server_log::{LogLevel, What};
-use server_port::fault::ServeFault;
 use server_port::gates::{Gate, Point};
 use server_port::{Access, ServerPort};
 use server_state::mail::{OutgoingMail, ServerState};
@@ -13,6 +12,8 @@ use shared_hub::{Run, SharedHub};
 use std::alloc::Global;
 use std::sync::Wait;
 use std::time::{Clock, Duration};
+use worker_port::WorkerPort;
+use worker_port::fault::ServeFault;
 
 /// How many bytes of memory the entry of a reload is counted for each byte of the policy's text: it keeps users, lists and rows, and
 /// what finds them. Of two policies 9 and 10 were measured; nothing bounds it for others.
@@ -138,7 +139,8 @@ impl<'a, L: Run, R: Wait + Clock, G: Gate + Drop> Reloads<'a, L, R, G> {
                 removed: removed.as_slice().len() as u64,
             },
         );
-        if !removed.as_slice().is_empty() && self.state.log.level() != LogLevel::None {
+        let is_told = self.state.log.level() != LogLevel::None || self.state.limits.tells_removed;
+        if is_told && !removed.as_slice().is_empty() {
             self.leave_reload(answer);
         }
     }

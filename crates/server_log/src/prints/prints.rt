@@ -77,7 +77,7 @@ impl Prints {
     }
 
     /// Waits for the next text, and takes it out. It returns `None` once nothing is left and nothing will be added.
-    pub(crate) fn next<R: Wait>(&self, rt: &R) -> Option<Vec<u8>> {
+    pub fn next<R: Wait>(&self, rt: &R) -> Option<Vec<u8>> {
         let mut queue = self.queue.lock(rt);
         for _ in rt.forever() {
             if let Some(text) = queue.texts.pop_front() {

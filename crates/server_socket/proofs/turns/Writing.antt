@@ -1,7 +1,7 @@
 -- One write after another.
 use Rattle.std.proofs.Common.{◌≡◌, ◌≢◌, ◌<◌, ◌≤◌, ◌+◌, ◌-◌, ◌++◌, ◌∙◌, ℕ, true, nat_lt, List, [], Option, Some, None, length, take, drop, ap, sym, refl, subst, append_assoc, arith, rules}
 use Rattle.std.proofs.lemmas.Grind.{common_steps}
-use Rattle.std.proofs.lemmas.List.{append-nil, take-append-drop, drop-drop, drop_all, length-drop, length-take-le}
+use Rattle.std.proofs.lemmas.List.{append-nil, take-append-drop, drop-append-le, drop-drop, drop_all, length-drop, length-take-le}
 use Rattle.std.proofs.lemmas.Bool.{lt-ltb, ltb-true}
 use Rattle.std.proofs.Math.Nat.{lt_of_not-le}
 use Rattle.std.specs.Prelude.{is_some}
@@ -50,6 +50,13 @@ pub left_over : (i : ℕ) (bs : List ℕ) → i < length bs → drop i bs ≢ []
 left_over i bs within none =
     let gone : length bs - i ≡ 0 = sym (length-drop i bs) ∙ ap length none in
     omega (arith, within, gone)
+
+-- a text is kept behind what isn't written yet, or alone
+pub kept_behind : (i : ℕ) (bs text : List ℕ) → i < length bs → drop i (bs ++ text) ≡ drop i bs ++ text
+kept_behind i bs text within = drop-append-le i bs text (omega (arith, within))
+
+pub kept_alone : (i : ℕ) (bs text : List ℕ) → length bs ≤ i → text ≡ drop i bs ++ text
+kept_alone i bs text over = sym (ap (λ (xs : List ℕ). xs ++ text) (drop_all i bs over))
 
 -- whether something is left
 pub decides_left : (i : ℕ) (bs : List ℕ) → (nat_lt i (length bs) ≡ true → drop i bs ≢ []) × (drop i bs ≢ [] → nat_lt i (length bs) ≡ true)

@@ -39,6 +39,12 @@ pub record Writes (before after : Option (List ℕ)) (all kept : List ℕ) : Typ
   pub appended : Appends before after front
   pub whole : all ≡ front ++ kept
 
+-- a text is kept behind what was kept, and a front of all is written; or the client isn't told, and a front of what was
+-- kept is
+abbrev pub IsSaid : List ℕ → Client → Client → Option (List ℕ) → Option (List ℕ) → Type 0
+IsSaid text old new before after =
+    Writes before after (old.kept ++ text) new.kept ⊎ Writes before after old.kept new.kept
+
 -- all that was kept is written, and then a front of what a call gave
 pub record IsToldAll (before after : Option (List ℕ)) (kept : List ℕ) (o : Output) (kept' : List ℕ) : Type 0 where
   pub between : Option (List ℕ)

@@ -35,14 +35,14 @@ impl Model for Client {
     ghost view = { λ c. client c.conn (drop c.written c.bytes.items) };
 }
 
-ghost use Rattle.std.specs.Prelude.{◌≡◌, ◌≢◌, ◌||◌, ◌<◌, ◌≤◌, Ok, [], None, Bool, Option, true, false, is_err, length, take};
+ghost use Rattle.std.specs.Prelude.{◌≡◌, ◌≢◌, ◌⊎◌, ◌++◌, ◌||◌, ◌<◌, ◌≤◌, Ok, [], None, Bool, Option, true, false, is_err, length, take};
 ghost use Rattle.std.specs.Bool.{Decides};
 ghost use Rattle.std.specs.Io.KnownBytes.{Consumes, IsAtEnd};
 ghost use Rattle.session_conn.specs.Turns.{port_of};
 ghost use Rattle.session_conn.specs.Calls.{new_connection};
 ghost use Rattle.session_plan.specs.Replies.{is_closed};
 ghost use Rattle.server_socket.specs.declared.turns.client.Piece.TheVariants as piece;
-ghost use Rattle.server_socket.specs.turns.Turns.{client, is_early, state, Client, Writes, IsTurn, IsReadTurn, IsServing, IsNoRead, IsStallTold, IsDraining, IsOpening, IsOver, IsPiece, piece_length};
+ghost use Rattle.server_socket.specs.turns.Turns.{client, is_early, state, Client, Writes, IsSaid, IsTurn, IsReadTurn, IsServing, IsNoRead, IsStallTold, IsDraining, IsOpening, IsOver, IsPiece, piece_length};
 
 /// What a turn that reads goes by: where a piece is read to, and when.
 pub struct ReadContext<'a> {
@@ -127,6 +127,13 @@ impl Client {
         self.written < self.bytes.len()
     }
 
+    /// How many bytes wait until the writer takes more.
+    pub fn waiting(&self) -> usize
+        ensures { result ≡ length self.now.kept }
+    {
+        self.bytes.len().saturating_sub(self.written)
+    }
+
     /// Writes what is kept, as far as the writer takes it, and returns whether that was all of it.
     #[tactic(auto, using(crate::proofs::turns::Writing::left_over))]
     fn write_kept<S: NonBlockingSink>(&mut self, writer: &mut S) -> Result<bool, DeviceFailed>
@@ -180,6 +187,42 @@ impl Client {
             Err(_) => Turn::Failed,
             Ok(false) => Turn::Waits,
             Ok(true) => Turn::Done,
+        }
+    }
+
+    /// Keeps a text behind what is kept, and writes as far as the writer takes it. A client whose connection has closed
+    /// isn't told, nor is one for whose text there is no memory.
+    pub fn say<S: NonBlockingSink>(&mut self, text: &[u8], writer: &mut S) -> Turn
+        ensures conn { self.new.conn ≡ self.old.conn }
+        ensures written { IsSaid text.now self.old self.new (S.contents writer.old) (S.contents writer.new) }
+        ensures turn { IsTurn self.new (S.failed writer.old) (S.failed writer.new) (S.waits writer.new) result }
+    {
+        if self.conn.stage().is_closed() {
+            return self.write_rest(writer);
+        }
+        if self.keep_behind(text) {
+            return self.flush(writer);
+        }
+        self.flush(writer)
+    }
+
+    /// Keeps a text behind what is kept, and returns whether there was memory for it.
+    #[tactic(auto, using(crate::proofs::turns::Writing::kept_behind, crate::proofs::turns::Writing::kept_alone))]
+    fn keep_behind(&mut self, text: &[u8]) -> bool
+        ensures conn { self.new.conn ≡ self.old.conn }
+        ensures kept { result ≡ true → self.new.kept ≡ self.old.kept ++ text.now }
+        ensures same { result ≡ false → self.new ≡ self.old }
+    {
+        if self.written < self.bytes.len() {
+            return self.bytes.extend_from_slice(text).is_ok();
+        }
+        match Vec::from_slice(self.alloc, text) {
+            Err(_) => false,
+            Ok(bytes) => {
+                self.bytes = bytes;
+                self.written = 0;
+                true
+            }
         }
     }
 

@@ -115,6 +115,11 @@ impl Kept {
         Look { rotations, before }
     }
 
+    /// Returns how many bytes were added since the history was rotated last.
+    pub(crate) fn bytes(&self) -> u64 {
+        self.bytes.load(Ordering::SeqCst)
+    }
+
     /// Returns how often the history was rotated.
     pub(crate) fn rotations(&self) -> u64 {
         self.rotations.load(Ordering::SeqCst)

@@ -4,7 +4,7 @@ use events::Answer;
 use mio::net::TcpStream;
 use mio::{Registry, Token, Waker};
 use std::alloc::Global;
-use std::sync::{Mutex, Wait};
+use std::sync::{Mutex, MutexGuard, Wait};
 use std::{io, mem};
 
 /// An accepted socket, with its connection's number.
@@ -173,15 +173,20 @@ impl Mailbox {
         drop(self.waker.wake());
     }
 
-    /// Leaves a socket, and returns whether it could. Without memory the socket is dropped, and so closed.
-    pub fn leave_socket<R: Wait>(&self, rt: &R, arrival: Arrival) -> bool {
-        let mut contents = self.contents.lock(rt);
-        let is_left = contents.intake.arrivals.push(arrival).is_ok();
+    /// Ends the leaving of something, and wakes the worker if it sleeps.
+    fn leave(&self, mut contents: MutexGuard<'_, Contents>) {
         let sleeps = mem::replace(&mut contents.intake.sleeps, false);
         drop(contents);
         if sleeps {
             self.wake();
         }
+    }
+
+    /// Leaves a socket, and returns whether it could. Without memory the socket is dropped, and so closed.
+    pub fn leave_socket<R: Wait>(&self, rt: &R, arrival: Arrival) -> bool {
+        let mut contents = self.contents.lock(rt);
+        let is_left = contents.intake.arrivals.push(arrival).is_ok();
+        self.leave(contents);
         is_left
     }
 
@@ -195,33 +200,21 @@ impl Mailbox {
     pub(crate) fn leave_mail<R: Wait>(&self, rt: &R, mail: &Mail) {
         let mut contents = self.contents.lock(rt);
         contents.intake.mail.add(mail);
-        let sleeps = mem::replace(&mut contents.intake.sleeps, false);
-        drop(contents);
-        if sleeps {
-            self.wake();
-        }
+        self.leave(contents);
     }
 
     /// Leaves the number of a slow consumer, which is to be closed. Without memory it is lost.
     pub fn leave_slow<R: Wait>(&self, rt: &R, conn: u64) {
         let mut contents = self.contents.lock(rt);
         drop(contents.intake.slow.push(conn));
-        let sleeps = mem::replace(&mut contents.intake.sleeps, false);
-        drop(contents);
-        if sleeps {
-            self.wake();
-        }
+        self.leave(contents);
     }
 
     /// Leaves the answer of a reload that has removed subscriptions. Without memory it is lost.
     pub fn leave_reload<R: Wait>(&self, rt: &R, answer: Answer) {
         let mut contents = self.contents.lock(rt);
         drop(contents.intake.reloads.push(answer));
-        let sleeps = mem::replace(&mut contents.intake.sleeps, false);
-        drop(contents);
-        if sleeps {
-            self.wake();
-        }
+        self.leave(contents);
     }
 
     /// Takes out all that others have left. `spare` is mail that was taken before, and its vectors hold the next: so no

@@ -3,6 +3,7 @@ use crate::mail::mailbox::Mailbox;
 use crate::mail::ways::Way;
 use mio::{Poll, Token};
 use server_log::ServerLog;
+use server_stats::{Shared, Stats};
 use std::alloc::Global;
 use std::hash::RandomState;
 use std::io;
@@ -22,6 +23,8 @@ pub struct Limits {
     pub history_bytes: u64,
     /// How many connections may be open.
     pub connections: u64,
+    /// Whether clients are told of their subscriptions that a reload removes.
+    pub tells_removed: bool,
     /// The keys of hash maps, which clients can't know.
     pub keys: RandomState,
 }
@@ -51,6 +54,8 @@ pub struct ServerState<'a> {
     /// The moment of the start, in milliseconds.
     start: u64,
     flags: &'a Flags,
+    /// What the workers count for its operator, if they do.
+    stats: Option<&'a Stats<'a>>,
 }
 
 /// Returns the milliseconds of the system's clock, or 0 where it has none.
@@ -89,7 +94,32 @@ impl<'a> ServerState<'a> {
             log,
             start,
             flags,
+            stats: None,
         }
+    }
+
+    /// Returns the state of a server whose workers count for its operator, if there are stats.
+    pub fn counting(self, stats: Option<&'a Stats<'a>>) -> ServerState<'a> {
+        ServerState { stats, ..self }
+    }
+
+    /// Returns what the workers count for the server's operator, if they do.
+    pub fn stats(&self) -> Option<&'a Stats<'a>> {
+        self.stats
+    }
+
+    /// Returns what is told of what the threads share.
+    pub fn shared(&self) -> Shared {
+        Shared {
+            connections: self.open(),
+            history_bytes: self.kept().bytes(),
+            rotations: self.kept().rotations(),
+        }
+    }
+
+    /// Returns how many sockets of clients are open.
+    fn open(&self) -> u64 {
+        self.flags.open.load(Ordering::SeqCst)
     }
 
     /// Returns how many milliseconds have passed since the start.

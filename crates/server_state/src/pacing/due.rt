@@ -116,6 +116,13 @@ impl Due {
         self.awaited.next_take()
     }
 
+    /// Returns how many bytes are known to wait in its outbox, about.
+    pub fn bytes(self) -> usize
+        ensures { result ≡ self.awaited.bytes }
+    {
+        self.awaited.bytes
+    }
+
     /// Returns whether something waits until earlier deliveries are taken.
     pub fn is_barred(self) -> bool
         ensures { result ≡ is_some self.ahead }

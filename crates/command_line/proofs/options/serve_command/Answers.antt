@@ -12,4 +12,8 @@ returns c =
     let fifth = with_option _ _ _ _ _ fourth c.in_ok-arg-5.ensures c.history_option.ensures.rule c.history_option.ensures.local in
     let sixth = with_option _ _ _ _ _ fifth c.in_ok-arg-6.ensures c.history_bytes_option.ensures.rule c.history_bytes_option.ensures.local in
     let seventh = with_option _ _ _ _ _ sixth c.in_ok-arg-7.ensures c.connections_option.ensures.rule c.connections_option.ensures.local in
-    IfOk-weaker c.arg-8.result _ _ (λ command more. with_option _ _ _ _ _ seventh more c.log_option.ensures.rule c.log_option.ensures.local) c.arg-8.ensures
+    let eighth = with_option _ _ _ _ _ seventh c.in_ok-arg-8.ensures c.keepalive_option.ensures.rule c.keepalive_option.ensures.local in
+    let ninth = with_option _ _ _ _ _ eighth c.in_ok-arg-9.ensures c.tell_removed_option.ensures.rule c.tell_removed_option.ensures.local in
+    let tenth = with_option _ _ _ _ _ ninth c.in_ok-arg-10.ensures c.log_option.ensures.rule c.log_option.ensures.local in
+    let eleventh = with_option _ _ _ _ _ tenth c.in_ok-arg-11.ensures c.stats_option.ensures.rule c.stats_option.ensures.local in
+    IfOk-weaker c.arg-12.result _ _ (λ command more. with_option _ _ _ _ _ eleventh more c.stats_file_option.ensures.rule c.stats_file_option.ensures.local) c.arg-12.ensures

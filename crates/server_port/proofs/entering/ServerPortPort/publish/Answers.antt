@@ -5,7 +5,7 @@ use Rattle.events.specs.declared.run.RunEnd.TheVariants as run
 use Rattle.shared_waits.proofs.runs.Runs.{completes_none, nearer}
 use Rattle.shared_hub.specs.Entering.{IsOfferedBy, IsPostedBy}
 use Rattle.server_port.specs.Holds.{AreHoldsPassed, IsWhy, held_back}
-use Rattle.server_port.specs.declared.course.Why.TheVariants.{Share}
+use Rattle.worker_port.specs.declared.course.Why.TheVariants.{Share}
 use Rattle.server_port.proofs.Holds.{held_counts, notes_further, notes_none, passes_further, passes_last, passes_none, was_asked}
 use Rattle.server_port.proofs.SeatRuns.{completes_on}
 use Rattle.server_port.proofs.Whys.{goes_why}

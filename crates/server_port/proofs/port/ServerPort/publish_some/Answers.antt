@@ -7,7 +7,7 @@ use Rattle.server_port.specs.Holds.{AreAnswersNoted, IsWhy, answer_points, most}
 use Rattle.server_port.specs.Points.{ArePassed}
 use Rattle.server_port.proofs.Handed.{all_handed, ended_handed, held_handed}
 use Rattle.server_port.proofs.Holds.{held_noted, hold_noted, hold_passed, kept_are, kept_below}
-use Rattle.server_port.specs.declared.course.Why.TheVariants.{Share}
+use Rattle.worker_port.specs.declared.course.Why.TheVariants.{Share}
 use Rattle.server_port.proofs.Passing.{passed_from}
 use Rattle.server_port.proofs.Whys.{all_followed_why, held_why}
 use Rattle.server_port.proofs.SeatRuns.{posted_by, held_first, run_ends}

@@ -1,0 +1,4 @@
+pub mod Boards
+pub mod Counts
+pub mod Tallies
+pub mod texts
