@@ -45,14 +45,21 @@ def token_of(token, wildcards):
     return f"${number}"
 
 
-def outcomes(destinations):
-    """Returns the patterns of the subjects that a source may be mapped to."""
-    single = [destinations] if isinstance(destinations, (str, dict)) else destinations
-    texts = [it if isinstance(it, str) else it["destination"] for it in single]
-    return [".".join("*" if WRITTEN.fullmatch(token) else token for token in it.split(".")) for it in texts]
+def outcomes(source, destinations):
+    """Returns the patterns of the subjects that a source may be mapped to, with itself if its weights leave it a rest."""
+    rows = [destinations] if isinstance(destinations, (str, dict)) else destinations
+    weighed = [(it, 100) if isinstance(it, str) else (it["destination"], it["weight"]) for it in rows]
+    found = [".".join("*" if WRITTEN.fullmatch(token) else token for token in it.split(".")) for it, _ in weighed]
+    return found if sum(weight for _, weight in weighed) == 100 else [*found, source]
 
 
 def judged_otherwise(publish, mappings):
-    """Returns the sources of which publish lists may allow a subject that they refuse once it is mapped, or the reverse."""
-    verdicts = {source: {allowed(publish, it) for it in [source, *outcomes(to)]} for source, to in mappings.items()}
-    return [source for source, found in verdicts.items() if found not in ({True}, {False})]
+    """Returns the sources of which publish lists may allow a subject that they refuse once it is mapped, or the reverse.
+
+    Of each it says whether they refuse all that its subjects are mapped to."""
+    found = {}
+    for source, destinations in mappings.items():
+        mapped = {allowed(publish, it) for it in outcomes(source, destinations)}
+        if {allowed(publish, source), *mapped} not in ({True}, {False}):
+            found[source] = mapped == {False}
+    return found
