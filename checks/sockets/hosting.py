@@ -8,6 +8,8 @@ import pathlib
 import shutil
 import subprocess
 import sys
+import tempfile
+import time
 
 from clients import want
 
@@ -59,6 +61,55 @@ def lacks(program, package):
     if not shutil.which(program):
         install(package)
     return "" if shutil.which(program) else f"there is no {program}, and {package} can't be installed"
+
+
+# An index of apt's own, so that a fetched package is the same on each host, and no setting of the host changes.
+INDEX = """Types: deb deb-src
+URIs: http://deb.debian.org/debian
+Suites: bookworm
+Components: main
+Signed-By: /usr/share/keyrings/debian-archive-keyring.gpg
+"""
+SETTINGS = """Dir::Etc::SourceList "{0}/index.sources";
+Dir::Etc::SourceParts "/dev/null";
+Dir::State::Lists "{0}/lists";
+Dir::Cache "{0}/cache";
+APT::Sandbox::User "root";
+Acquire::Languages "none";
+Acquire::Retries "0";
+Acquire::http::Timeout "10";
+"""
+
+
+def lacks_source(package, folder, seconds=40):
+    """Returns that a package of Debian 12 and its source can't be had, or nothing once `program` and `source` of a folder have
+    them. Nothing is installed."""
+    if folder.is_dir():
+        return ""
+    folder.parent.mkdir(parents=True, exist_ok=True)
+    with tempfile.TemporaryDirectory(dir=folder.parent) as name:
+        room, begin = pathlib.Path(name), time.monotonic()
+
+        def run(*words):
+            how = {"cwd": room, "env": {**os.environ, "APT_CONFIG": f"{room}/settings"}, **NOWHERE}
+            subprocess.run(words, check=True, timeout=max(1, begin + seconds - time.monotonic()), **how)
+
+        (room / "index.sources").write_text(INDEX)
+        (room / "settings").write_text(SETTINGS.format(room))
+        for it in ("lists/partial", "cache/archives/partial", "found/program", "found/source"):
+            (room / it).mkdir(parents=True)
+        try:
+            run("apt-get", "update")
+            run("apt-get", "download", package)
+            run("apt-get", "source", "--download-only", package)
+            for it in room.glob("*.deb"):
+                run("dpkg-deb", "-x", it, "found/program")
+            for it in room.glob("*.tar.*"):
+                run("tar", "-xf", it, "-C", "found/source")
+        except (OSError, subprocess.SubprocessError) as error:
+            return f"{package} and its source can't be had: {error}"
+        os.rename(room / "found", folder)
+    return ""
 
 
 def lacks_libnats():
