@@ -131,6 +131,33 @@ def taken_ports(program, divide):
         ran(program, ["serve", "--listen", address], first, 1, b"listen failed\n")
 
 
+def has_ipv6():
+    try:
+        with socket.create_server(("::1", 0), family=socket.AF_INET6):
+            return True
+    except OSError:
+        return False
+
+
+def is_taken(host, port):
+    """Whether a client that connects there is sent something."""
+    try:
+        with socket.create_connection((host, port), LIMIT) as it:
+            return bool(it.recv(1))
+    except ConnectionRefusedError:
+        return False
+
+
+def every_address(program, divide):
+    """0.0.0.0 takes clients over IPv4 alone, [::] over IPv6 and IPv4"""
+    if not has_ipv6():
+        return "not tried, since this host has no IPv6"
+    for listen, wanted in (("0.0.0.0:0", ["127.0.0.1"]), ("[::]:0", ["127.0.0.1", "::1"])):
+        with Server(program, listen=listen) as server:
+            taken = [it for it in ("127.0.0.1", "::1") if is_taken(it, server.address[1])]
+            want(taken == wanted, f"at {listen} it takes clients who connect to {taken}")
+
+
 def policy_files(program, divide):
     """A policy file: an edit is in force soon, a text that is refused prints its fault line, the one before stays"""
     with Server(program, file=True) as server, Client(server) as client:
@@ -162,4 +189,4 @@ def missing_policy_file(program, divide):
 
 if __name__ == "__main__":
     run(__doc__, wrong_first_frames, wrong_first_policies, wrong_words, later_frames, end_of_input,
-        end_beside_a_sleeper, no_input, taken_ports, policy_files, missing_policy_file)
+        end_beside_a_sleeper, no_input, taken_ports, every_address, policy_files, missing_policy_file)
