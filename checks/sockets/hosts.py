@@ -22,7 +22,9 @@ import time
 from clients import Client, Failed, run, wait_for, want
 from hosting import ip, lacks, lacks_libnats, lacks_namespaces, over_libnats, skip_if, within
 
-SETS = pathlib.Path(__file__).resolve().parents[2] / "packaging" / "sets"
+ROOT = pathlib.Path(__file__).resolve().parents[2]
+SETS = ROOT / "packaging" / "sets"
+PAGE = ROOT / "docs" / "OPERATING.md"
 PROXY = "10.78.0.1"
 HOSTS = {"ONE": "10.78.0.11", "THREE": "10.78.0.12", "FOUR": "10.78.0.13"}
 # The host of a client that vanishes.
@@ -31,6 +33,7 @@ PORTS = {"ONE": 4222, "TWO": 4222, "THREE": 4223, "FOUR": 4224}
 # HAProxy looks at a server two seconds after it did before, for two seconds at most, and takes it for dead after two looks.
 LOOKS = 8
 SOON = 15
+DRAIN = "set server ONE/natsd state drain"
 
 
 def name_of(address):
@@ -171,9 +174,12 @@ class Net:
         return subprocess.run(["socat", "-", f"{self.room}/master.sock"], **how).stdout
 
     def tells_proxy(self, line):
-        """Gives HAProxy a command, as docs/OPERATING.md does."""
-        ran = subprocess.run(["socat", "-", f"{self.room}/admin.sock"], input=f"{line}\n", capture_output=True, text=True)
-        want((ran.returncode, ran.stdout.strip(), ran.stderr) == (0, "", ""), f"{line}: {ran}")
+        """Gives HAProxy a command about ONE, as docs/OPERATING.md gives it DRAIN about BILLING."""
+        page = [it for it in re.findall("`([^`\n]*)`", PAGE.read_text()) if DRAIN.replace("ONE", "BILLING") in it]
+        want(len(page) == 1, f"the page has {page}")
+        command = page[0].replace("BILLING", "ONE").replace(DRAIN, line).replace("/run/haproxy", str(self.room))
+        ran = subprocess.run(["sh", "-c", command], capture_output=True, text=True)
+        want((ran.returncode, ran.stdout.strip(), ran.stderr) == (0, "", ""), f"{command}: {ran}")
 
     def close(self):
         for it in [*self.servers.values(), *([self.proxy] if self.proxy else [])]:
@@ -387,23 +393,34 @@ def moves(program, divide):
 
 
 def drains(program, divide):
-    """A server that drains lets no client in and keeps those that it has, until they are shut down and it is ready again"""
+    """A server that drains lets no client in and keeps all that it has, until its stop; some are older than a reload of HAProxy"""
     with network(program) as (net, tenants):
-        net.tells_proxy("set server ONE/natsd state drain")
+        net.replace_proxy()
+        newer = connected("ONE")
+        net.tells_proxy(DRAIN)
         all_publish(tenants)
+        newer.message()
         try:
             Tenant("ONE")
         except (Failed, OSError):
             pass
         else:
             want(False, "another client is let in")
+        # (the process that has the older ones isn't told)
         net.tells_proxy("shutdown sessions server ONE/natsd")
+        is_closed(newer)
+        all_publish(tenants)
+        net.stop("natsd@ONE")
         for it in ("ONE", "TWO"):
             is_closed(tenants.pop(it))
         all_publish(tenants)
-        net.tells_proxy("set server ONE/natsd state ready")
+        net.start(HOSTS["ONE"], "natsd@ONE")
+        net.tells_proxy(DRAIN.replace("drain", "ready"))
         tenants |= {it: connected(it) for it in ("ONE", "TWO")}
         all_publish(tenants)
+        net.tells_proxy(DRAIN)
+        net.replace_proxy()
+        tenants["ONE"] = connected("ONE")
 
 
 def dies(program, divide):
