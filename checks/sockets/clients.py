@@ -1,8 +1,9 @@
 """A server and its clients, for the checks over real sockets.
 
 Each check is a script of this folder: NAME.py PROGRAM [--divide N]. It prints a line for each thing that it shows and
-last 'N passed, M failed', with status 1 where one failed. N divides the counts, for a program that was built without
-optimization. Nothing is timed, but that something happens within LIMIT seconds where it has to happen at all.
+last 'N passed, M failed', with status 1 where one failed. What can't run here has a line 'skipped', and is in neither
+count. N divides the counts, for a program that was built without optimization. Nothing is timed, but that something
+happens within LIMIT seconds where it has to happen at all.
 
 A storm is a check that takes a count of workers: --workers N runs the storms alone, with N workers. --only NAME runs
 one check by its function's name, and --times N runs each N times. Storms look at times, since what they are about is
@@ -10,6 +11,7 @@ who waits for whom; their bounds are some times what a quiet machine shows.
 """
 
 import argparse
+import collections
 import concurrent.futures
 import contextlib
 import json
@@ -42,6 +44,10 @@ TEXTS = {
 
 class Failed(Exception):
     """What a check wanted and didn't find."""
+
+
+class Skipped(Exception):
+    """Why a check can't run here. It isn't counted."""
 
 
 def want(holds, why):
@@ -221,7 +227,7 @@ class Client:
         except ConnectionResetError:
             return False
         except TimeoutError:
-            raise Failed(f"nothing came for {LIMIT} s after {shown(self.got)}") from None
+            raise Failed(f"nothing came for {self.socket.gettimeout():.0f} s after {shown(self.got)}") from None
         self.got += data
         return bool(data)
 
@@ -438,16 +444,18 @@ def jobs_of(asked, checks):
 
 
 def outcome(asked, check, workers):
-    """Runs a check here, and returns whether it passed and the line that says so."""
+    """Runs a check here, and returns the line that says whether it passed, failed or was skipped."""
     name = (check.__doc__ or check.__name__).strip().split("\n")[0].rstrip(".")
     name += f", {workers} worker{'s' if workers > 1 else ''}" if workers else ""
     begin = time.monotonic()
     try:
         more = check(asked.program, asked.divide, workers) if workers else check(asked.program, asked.divide)
-        return True, f"passed: {name}{f': {more}' if more else ''} ({time.monotonic() - begin:.1f} s)"
+        return f"passed: {name}{f': {more}' if more else ''} ({time.monotonic() - begin:.1f} s)"
+    except Skipped as reason:
+        return f"skipped: {name}: {reason}"
     except Exception as error:
         why = str(error) if isinstance(error, Failed) else traceback.format_exc()
-        return False, f"FAILED: {name}: {why} ({time.monotonic() - begin:.1f} s)"
+        return f"FAILED: {name}: {why} ({time.monotonic() - begin:.1f} s)"
 
 
 def outcome_apart(asked, check, workers):
@@ -457,7 +465,9 @@ def outcome_apart(asked, check, workers):
     words += ["--workers", str(workers)] if workers else []
     it = subprocess.run(words, stdout=subprocess.PIPE, text=True, errors="backslashreplace")
     said = it.stdout.rstrip("\n").rpartition("\n")[0]
-    return it.returncode == 0, said or f"FAILED: {check.__name__}: it ended with {it.returncode} and without a line"
+    if said and (it.returncode != 0) == said.startswith("FAILED:"):
+        return said
+    return f"FAILED: {check.__name__}: it ended with {it.returncode}, and its line is {said!r}"
 
 
 def run(about, *checks, at_once=1):
@@ -468,13 +478,12 @@ def run(about, *checks, at_once=1):
     SEED = asked.seed
     jobs = jobs_of(asked, checks)
     how = outcome if at_once == 1 or len(jobs) == 1 else outcome_apart
-    failed = 0
+    counts = collections.Counter()
     with concurrent.futures.ThreadPoolExecutor(at_once) as pool:
         # (one that runs here is run by this thread)
         each = pool.map if how is outcome_apart else map
-        results = each(lambda job: how(asked, *job), jobs)
-        for passed, line in results:
-            failed += not passed
+        for line in each(lambda job: how(asked, *job), jobs):
+            counts[line.partition(":")[0]] += 1
             print(line, flush=True)
-    print(f"{len(jobs) - failed} passed, {failed} failed")
-    raise SystemExit(1 if failed else 0)
+    print(f"{counts['passed']} passed, {counts['FAILED']} failed")
+    raise SystemExit(1 if counts["FAILED"] else 0)

@@ -1,6 +1,6 @@
 #!/usr/bin/env python3
 """The program of docs/FROM_NATS_SERVER.md, "An error that ends a client", over nats.go: it connects again after 'Slow Consumer'.
-Where Go or nats.go isn't installed, a line says so and nothing is counted."""
+Where there is no Go or nats.go and it can't be installed, a line says so and nothing is counted."""
 
 import pathlib
 import re

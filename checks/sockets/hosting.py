@@ -3,6 +3,7 @@ libnats."""
 
 import contextlib
 import ctypes
+import fcntl
 import os
 import pathlib
 import shutil
@@ -11,7 +12,7 @@ import sys
 import tempfile
 import time
 
-from clients import want
+from clients import Skipped, want
 
 CLONE_NEWNET = 0x40000000
 NOWHERE = dict.fromkeys(("stdin", "stdout", "stderr"), subprocess.DEVNULL)
@@ -45,11 +46,13 @@ def lacks_namespaces():
     return found.stderr.strip() if found.returncode else ""
 
 
-def install(package):
-    """Installs a package of Debian's, if this user may."""
+def install(*packages):
+    """Installs packages of Debian's, if this user may. One script does so at a time: apt-get refuses a second update, and
+    beside an update an install finds half of the lists."""
     how = [] if os.geteuid() == 0 else ["sudo", "-n"]
-    words = [*how, "apt-get", "-o", "DPkg::Lock::Timeout=120", "install", "-y", "--no-install-recommends", package]
-    with contextlib.suppress(FileNotFoundError):
+    words = [*how, "apt-get", "-o", "DPkg::Lock::Timeout=120", "install", "-y", "--no-install-recommends", *packages]
+    with contextlib.suppress(FileNotFoundError), open(__file__) as it:
+        fcntl.flock(it, fcntl.LOCK_EX)
         if subprocess.run(words, **NOWHERE).returncode:
             subprocess.run([*how, "apt-get", "update"], **NOWHERE)
             subprocess.run(words, **NOWHERE)
@@ -127,23 +130,37 @@ def over_libnats(name, room):
     return f"{room}/{name}"
 
 
-# Where Debian's golang-github-nats-io-go-nats-dev has nats.go.
+# Debian's packages of Go and nats.go, and where the second puts it.
+NATS_GO = ("golang-go", "golang-github-nats-io-go-nats-dev")
 GO_SOURCES = pathlib.Path("/usr/share/gocode")
+# What was built of nats.go stays here for the next program.
+GO_CACHE = pathlib.Path(__file__).resolve().parents[2] / "out" / "go"
+
+
+def has_nats_go():
+    return bool(shutil.which("go")) and (GO_SOURCES / "src/github.com/nats-io/nats.go").is_dir()
 
 
 def lacks_nats_go():
-    """Returns that nothing can be built against nats.go, or nothing if something can. Nobody installs a Go for a check."""
-    is_there = shutil.which("go") and (GO_SOURCES / "src/github.com/nats-io/nats.go").is_dir()
-    return "" if is_there else "golang-go and golang-github-nats-io-go-nats-dev aren't here"
+    """Returns that nothing can be built against nats.go, after an attempt to install it, or nothing if something can."""
+    if not has_nats_go():
+        install(*NATS_GO)
+    return "" if has_nats_go() else f"{' and '.join(NATS_GO)} aren't here and can't be installed"
 
 
 def over_nats_go(text, room):
     """Builds a program over nats.go in a folder, and returns it."""
     source = pathlib.Path(room) / "main.go"
     source.write_text(text)
-    settings = {"GO111MODULE": "off", "GOPATH": str(GO_SOURCES), "GOCACHE": f"{room}/cache", "GOFLAGS": ""}
+    settings = {"GO111MODULE": "off", "GOPATH": str(GO_SOURCES), "GOCACHE": str(GO_CACHE), "GOFLAGS": ""}
     subprocess.run(["go", "build", "-o", f"{room}/main", source], env={**os.environ, **settings}, check=True)
     return f"{room}/main"
+
+
+def skip_check_if(reason):
+    """Ends a check uncounted where there is a reason why it can't run."""
+    if reason:
+        raise Skipped(reason)
 
 
 def skip_if(*reasons):

@@ -2,8 +2,8 @@
 """Four tenants in three sets, each set's natsd on a host of its own, behind HAProxy, by the commands of packaging/sets.
 
 Each host has a network namespace. In place of scp, ssh and systemctl this copies files between folders, and starts and
-stops processes. Where there is no HAProxy and it can't be installed, or nobody may make a namespace, a line says so and
-nothing is counted."""
+stops processes. Each tenant has a client of these checks, and in some checks one over libnats. Where there is no HAProxy or
+libnats and it can't be installed, or nobody may make a namespace, a line says so and nothing is counted."""
 
 import contextlib
 import json
@@ -22,14 +22,18 @@ import time
 from clients import Client, Failed, run, wait_for, want
 from hosting import ip, lacks, lacks_libnats, lacks_namespaces, over_libnats, skip_if, within
 
-SETS = pathlib.Path(__file__).resolve().parents[2] / "packaging" / "sets"
+ROOT = pathlib.Path(__file__).resolve().parents[2]
+SETS = ROOT / "packaging" / "sets"
+PAGE = ROOT / "docs" / "OPERATING.md"
 PROXY = "10.78.0.1"
 HOSTS = {"ONE": "10.78.0.11", "THREE": "10.78.0.12", "FOUR": "10.78.0.13"}
 # The host of a client that vanishes.
 FAR = "10.78.0.21"
 PORTS = {"ONE": 4222, "TWO": 4222, "THREE": 4223, "FOUR": 4224}
-# HAProxy looks every two seconds, and takes a server for dead after two looks.
+# HAProxy looks at a server two seconds after it did before, for two seconds at most, and takes it for dead after two looks.
+LOOKS = 8
 SOON = 15
+DRAIN = "set server ONE/natsd state drain"
 
 
 def name_of(address):
@@ -60,7 +64,7 @@ class Net:
 
     def __init__(self, program, room, divided, is_named):
         self.program, self.room, self.servers, self.proxy = program, pathlib.Path(room), {}, None
-        # By how much HAProxy's times for clients that vanish are divided.
+        # By how much HAProxy's times for clients and servers that vanish are divided.
         self.divided = divided
         # Whether the sets have names for clients of TLS.
         self.is_named = is_named
@@ -142,20 +146,40 @@ class Net:
         path = self.room / "haproxy.cfg"
         text = (self.room / "sets" / "haproxy.cfg").read_text()
         text = re.sub(r"^( *stats socket) \S+", rf"\1 {self.room}/admin.sock", text, flags=re.M)
-        times = r"(clitcpka-\w+|tcp-ut) (\d+)s"
+        times = r"((?:cli|srv)tcpka-\w+|tcp-ut) (\d+)s"
         path.write_text(re.sub(times, lambda it: f"{it[1]} {int(it[2]) // self.divided}s", text))
         if self.proxy:
             # (in its first moments it ignores the signal)
             wait_for(lambda: catches(self.proxy.pid, signal.SIGUSR2), "HAProxy can be told to reload", SOON)
             self.proxy.send_signal(signal.SIGUSR2)
             return
-        line = ["ip", "netns", "exec", name_of(PROXY), "haproxy", "-W", "-f", path]
+        line = ["ip", "netns", "exec", name_of(PROXY), "haproxy", "-W", "-S", self.room / "master.sock", "-f", path]
         self.proxy = subprocess.Popen(line, stdout=subprocess.DEVNULL, stderr=subprocess.DEVNULL)
 
+    def replace_proxy(self):
+        """Reloads HAProxy. Once this returns, its old process lets nobody in; it keeps its clients."""
+        old = self.workers()
+        self.reload_proxy()
+        wait_for(lambda: set(self.workers()) - set(old), "HAProxy has a new process", SOON)
+        for it in old:
+            wait_for(lambda: "Stopping: 1" in self.asks_master(f"@!{it} show info"), "the old one lets nobody in", SOON)
+
+    def workers(self):
+        """Returns the numbers of HAProxy's processes that have clients, old ones too."""
+        return re.findall(r"^(\d+)\s+worker\s", self.asks_master("show proc"), re.M)
+
+    def asks_master(self, line):
+        """Gives HAProxy's master a command, and returns what it answers, nothing while it starts anew."""
+        how = {"input": f"{line}\n", "capture_output": True, "text": True}
+        return subprocess.run(["socat", "-", f"{self.room}/master.sock"], **how).stdout
+
     def tells_proxy(self, line):
-        """Gives HAProxy a command, as docs/OPERATING.md does."""
-        ran = subprocess.run(["socat", "-", f"{self.room}/admin.sock"], input=f"{line}\n", capture_output=True, text=True)
-        want((ran.returncode, ran.stdout.strip(), ran.stderr) == (0, "", ""), f"{line}: {ran}")
+        """Gives HAProxy a command about ONE, as docs/OPERATING.md gives it DRAIN about BILLING."""
+        page = [it for it in re.findall("`([^`\n]*)`", PAGE.read_text()) if DRAIN.replace("ONE", "BILLING") in it]
+        want(len(page) == 1, f"the page has {page}")
+        command = page[0].replace("BILLING", "ONE").replace(DRAIN, line).replace("/run/haproxy", str(self.room))
+        ran = subprocess.run(["sh", "-c", command], capture_output=True, text=True)
+        want((ran.returncode, ran.stdout.strip(), ran.stderr) == (0, "", ""), f"{command}: {ran}")
 
     def close(self):
         for it in [*self.servers.values(), *([self.proxy] if self.proxy else [])]:
@@ -217,6 +241,10 @@ class OverLibnats:
         self.process.stdin.write(f"{text}\n")
         self.process.stdin.flush()
 
+    def words(self, begun):
+        """Returns the lines from this one on, but for messages of the clients of these checks, which publish numbers."""
+        return [it for it in map(str.rstrip, self.lines[begun:]) if not it[-1].isdigit()]
+
     def waits_for(self, *lines):
         """Waits until it has printed these lines behind each other, among others."""
         def came():
@@ -273,8 +301,8 @@ def all_publish(tenants, more=None):
         publishes(tenants, account, wanted)
 
 
-def is_closed(it):
-    it.socket.settimeout(SOON)
+def is_closed(it, limit=SOON):
+    it.socket.settimeout(limit)
     it.rest()
 
 
@@ -290,9 +318,44 @@ def network(program, divided=1, is_named=False):
             net.close()
 
 
+@contextlib.contextmanager
+def each_over_libnats():
+    """A client over libnats of each account, connected."""
+    with tempfile.TemporaryDirectory() as room, contextlib.ExitStack() as stack:
+        client = over_libnats("tenant", room)
+        clients = {it: stack.enter_context(OverLibnats(client, it)) for it in PORTS}
+        for it in clients.values():
+            it.waits_for("connected")
+        yield clients
+
+
+def each_publishes(clients, joined):
+    """Has each client over libnats publish, and shows that exactly those get it that are to, under their subjects."""
+    begun = {name: len(it.lines) for name, it in clients.items()}
+    wanted = {name: {f"news.x {text}-{name}" for text in ("one", "end")} for name in clients}
+    across = {"TWO": "ONE", **({"FOUR": "THREE"} if joined else {})}
+    for name, exporter in across.items():
+        wanted[name] |= {f"{exporter.lower()}.news.x {text}-{exporter}" for text in ("one", "end")}
+    for text in ("one", "end"):
+        for name, it in clients.items():
+            it.publish(f"{text}-{name}")
+        for name, it in clients.items():
+            it.waits_for(*(line for line in sorted(wanted[name]) if f" {text}-" in line and name in line))
+    for name, it in clients.items():
+        wait_for(lambda: len(it.words(begun[name])) >= len(wanted[name]), f"all of {name}; there are {it.lines}", SOON)
+        got = it.words(begun[name])
+        want(sorted(got) == sorted(wanted[name]), f"{name} got {got}, and not {wanted[name]}")
+
+
+def are_disconnected(clients, *names):
+    """Shows that of the clients over libnats these were disconnected, once, and no other."""
+    for name, it in clients.items():
+        want(it.lines.count("disconnected\n") == (name in names), f"{name}: {it.lines}")
+
+
 def apart(program, divide):
-    """A reload of one set leaves the connections of the others, and their messages stay among themselves"""
-    with network(program) as (net, tenants):
+    """A reload of one set leaves the connections of the others, libnats' too, and their messages stay among themselves"""
+    with network(program) as (net, tenants), each_over_libnats() as clients:
         guest = connected("THREE", "guest")
         all_publish(tenants)
         net.install(policy(gone=True))
@@ -300,6 +363,8 @@ def apart(program, divide):
         guest.socket.settimeout(SOON)
         want(guest.rest().endswith(b"-ERR 'Authorization Violation'\r\n"), "the guest isn't sent away")
         all_publish(tenants)
+        each_publishes(clients, joined=False)
+        are_disconnected(clients)
 
 
 def joins(program, divide):
@@ -316,76 +381,71 @@ def joins(program, divide):
         all_publish(tenants)
 
 
-def each_publishes(clients, joined):
-    """Has each client over libnats publish, and shows that exactly those get it that are to, under their subjects."""
-    begun = {name: len(it.lines) for name, it in clients.items()}
-    wanted = {name: {f"news.x {text}-{name}" for text in ("one", "end")} for name in clients}
-    across = {"TWO": "ONE", **({"FOUR": "THREE"} if joined else {})}
-    for name, exporter in across.items():
-        wanted[name] |= {f"{exporter.lower()}.news.x {text}-{exporter}" for text in ("one", "end")}
-    for text in ("one", "end"):
-        for name, it in clients.items():
-            it.publish(f"{text}-{name}")
-        for name, it in clients.items():
-            it.waits_for(*(line for line in sorted(wanted[name]) if f" {text}-" in line and name in line))
-    for name, it in clients.items():
-        wait_for(lambda: len(it.lines) - begun[name] >= len(wanted[name]), f"all of {name}; there are {it.lines}", SOON)
-        got = [line.rstrip("\n") for line in it.lines[begun[name]:]]
-        want(sorted(got) == sorted(wanted[name]), f"{name} got {got}, and not {wanted[name]}")
-
-
 def moves(program, divide):
     """Clients over libnats connect again by themselves where a join moves them, and no other client notices"""
-    reason = lacks_libnats()
-    if reason:
-        return f"CLIENTS OVER LIBNATS ARE SKIPPED: {reason}"
-    with network(program) as (net, _), tempfile.TemporaryDirectory() as room, contextlib.ExitStack() as stack:
-        client = over_libnats("tenant", room)
-        clients = {it: stack.enter_context(OverLibnats(client, it)) for it in PORTS}
-        for it in clients.values():
-            it.waits_for("connected")
+    with network(program) as (net, _), each_over_libnats() as clients:
         each_publishes(clients, joined=False)
         net.install(policy(joined=True))
         clients["FOUR"].waits_for("connected", "disconnected", "connected")
         each_publishes(clients, joined=True)
-        for name, it in clients.items():
-            want(it.lines.count("disconnected\n") == (name == "FOUR"), f"{name}: {it.lines}")
+        are_disconnected(clients, "FOUR")
     return "one of four is moved"
 
 
 def drains(program, divide):
-    """A server that drains lets no client in and keeps those that it has, until they are shut down and it is ready again"""
+    """A server that drains lets no client in and keeps all that it has, until its stop; some are older than a reload of HAProxy"""
     with network(program) as (net, tenants):
-        net.tells_proxy("set server ONE/natsd state drain")
+        net.replace_proxy()
+        newer = connected("ONE")
+        net.tells_proxy(DRAIN)
         all_publish(tenants)
+        newer.message()
         try:
             Tenant("ONE")
         except (Failed, OSError):
             pass
         else:
             want(False, "another client is let in")
+        # (the process that has the older ones isn't told)
         net.tells_proxy("shutdown sessions server ONE/natsd")
+        is_closed(newer)
+        all_publish(tenants)
+        net.stop("natsd@ONE")
         for it in ("ONE", "TWO"):
             is_closed(tenants.pop(it))
         all_publish(tenants)
-        net.tells_proxy("set server ONE/natsd state ready")
+        net.start(HOSTS["ONE"], "natsd@ONE")
+        net.tells_proxy(DRAIN.replace("drain", "ready"))
         tenants |= {it: connected(it) for it in ("ONE", "TWO")}
         all_publish(tenants)
+        net.tells_proxy(DRAIN)
+        net.replace_proxy()
+        tenants["ONE"] = connected("ONE")
 
 
 def dies(program, divide):
-    """A host that vanishes takes its set alone, and has its clients again once it is back"""
-    with network(program) as (net, tenants):
+    """A host that vanishes takes its set alone, and has its clients again once it is back; some are older than a reload"""
+    with network(program, divided=4) as (net, tenants), each_over_libnats() as clients:
+        net.replace_proxy()
+        newer = connected("ONE")
         net.link(HOSTS["ONE"], "down")
-        begin = time.monotonic()
+        begin, took = time.monotonic(), []
+        # (HAProxy's older process doesn't look at the server: one of its clients has bytes that wait for it, the others are silent)
+        tenants["TWO"].send(b"PING\r\n")
+        for it, limit in ((newer, LOOKS + 3), (tenants.pop("ONE"), SOON), (tenants.pop("TWO"), SOON)):
+            is_closed(it, limit)
+            took.append(f"{time.monotonic() - begin:.1f} s")
         for it in ("ONE", "TWO"):
-            is_closed(tenants.pop(it))
-        took = time.monotonic() - begin
+            clients[it].waits_for("connected", "disconnected")
         all_publish(tenants)
         net.link(HOSTS["ONE"], "up")
         tenants |= {it: connected(it) for it in ("ONE", "TWO")}
         all_publish(tenants)
-    return f"its clients are told after {took:.1f} s"
+        for it in ("ONE", "TWO"):
+            clients[it].waits_for("connected", "disconnected", "connected")
+        each_publishes(clients, joined=False)
+        are_disconnected(clients, "ONE", "TWO")
+    return f"its clients are told after {', '.join(took)}, the older ones in a quarter of HAProxy's time"
 
 
 def sockets(net, account):
@@ -435,5 +495,6 @@ def by_names(program, divide):
 
 
 if __name__ == "__main__":
-    skip_if(lacks_namespaces(), lacks("haproxy", "haproxy"), lacks("socat", "socat"), lacks("openssl", "openssl"))
+    skip_if(lacks_namespaces(), lacks("haproxy", "haproxy"), lacks("socat", "socat"), lacks("openssl", "openssl"),
+            lacks_libnats())
     run(__doc__, apart, joins, moves, drains, dies, vanishes, by_names)

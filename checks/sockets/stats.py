@@ -11,7 +11,7 @@ import tempfile
 import time
 
 from clients import Client, Failed, Server, is_alive, run, wait_for, want
-from hosting import lacks
+from hosting import lacks, skip_check_if
 
 POLICY = {"accounts": {
     "A": {"users": [{"user": "a", "password": "a", "permissions": {"publish": {"deny": ["secret.>"]}}}],
@@ -247,7 +247,7 @@ def read_metrics(text):
 
 
 def metrics(program, divide):
-    """The file of metrics has the numbers of the line, is whole at any time, and is what Prometheus's tool takes"""
+    """The file of metrics has the numbers of the line, and is whole at any time"""
     with tempfile.TemporaryDirectory() as room:
         path = pathlib.Path(room) / "natsd.prom"
         with Server(program, "--stats", 1, "--stats-file", path, policy=POLICY) as server:
@@ -259,16 +259,21 @@ def metrics(program, divide):
             line = comes(server, account=NAMES[1], sessions=1)
             wait_for(lambda: read_metrics(path.read_text()) == line, f"the numbers {line} in the file", SOON)
             want(path.stat().st_mode & 0o444 == 0o444 & ~mask(), "others can't read it")
-            text = path.read_text()
             for _ in range(3000):
                 read_metrics(path.read_text())
             want(os.listdir(room) in (["natsd.prom"], ["natsd.prom.new", "natsd.prom"], ["natsd.prom", "natsd.prom.new"]), f"{os.listdir(room)}")
-            reason = lacks("promtool", "prometheus")
-            if reason:
-                return f"PROMETHEUS'S OWN CHECK IS SKIPPED: {reason}"
-            it = subprocess.run(["promtool", "check", "metrics"], input=text, capture_output=True, text=True)
-            want((it.returncode, it.stdout, it.stderr) == (0, "", ""), f"promtool: {it.returncode} {it.stdout}{it.stderr}")
-    return "promtool check metrics has nothing to say"
+
+
+def judged_by_prometheus(program, divide):
+    """Prometheus's own tool has nothing to say of the file of metrics"""
+    skip_check_if(lacks("promtool", "prometheus"))
+    with tempfile.TemporaryDirectory() as room:
+        path = pathlib.Path(room) / "natsd.prom"
+        with Server(program, "--stats", 1, "--stats-file", path, policy=POLICY) as server, Client(server, user="b"):
+            line = comes(server, account=NAMES[1], sessions=1)
+            wait_for(lambda: path.exists() and read_metrics(path.read_text()) == line, f"the numbers {line} in the file", SOON)
+            it = subprocess.run(["promtool", "check", "metrics"], input=path.read_text(), capture_output=True, text=True)
+        want((it.returncode, it.stdout, it.stderr) == (0, "", ""), f"promtool: {it.returncode} {it.stdout}{it.stderr}")
 
 
 def mask():
@@ -296,4 +301,4 @@ def file_alone(program, divide):
 
 
 if __name__ == "__main__":
-    run(__doc__, numbers, times, crowd, slow, histories, off, metrics, file_alone)
+    run(__doc__, numbers, times, crowd, slow, histories, off, metrics, judged_by_prometheus, file_alone)

@@ -1,7 +1,7 @@
 #!/usr/bin/env python3
 """How signals end the server: at once on a host and under the init of a container, and not where it is a container's first
-process. Where no namespace of processes can be made, or there is no tini and it can't be installed, a line says so for
-containers."""
+process. Where no namespace of processes can be made, or there is no tini and it can't be installed, the check of containers is
+skipped."""
 
 import contextlib
 import os
@@ -10,7 +10,7 @@ import signal
 import subprocess
 
 from clients import Client, Server, is_alive, run, wait_for, want
-from hosting import lacks
+from hosting import lacks, skip_check_if
 
 # Each signal that systemd, a terminal or an operator of nats-server sends.
 ENDING = (signal.SIGTERM, signal.SIGINT, signal.SIGHUP, signal.SIGUSR1, signal.SIGUSR2)
@@ -65,9 +65,7 @@ def lacks_containers():
 
 def contained(program, divide):
     """As a container's first process it stays at SIGTERM, and under an init it ends at once with status 143"""
-    reason = lacks_containers()
-    if reason:
-        return f"CONTAINERS ARE SKIPPED: {reason}"
+    skip_check_if(lacks_containers())
     with Contained(program, file=True) as server:
         os.kill(server.first_process(), signal.SIGTERM)
         want(not has_ended(server, 2), f"it has ended with {server.process.returncode}")

@@ -6,6 +6,7 @@ import contextlib
 import json
 import os
 import pathlib
+import resource
 import shutil
 import subprocess
 import tempfile
@@ -319,25 +320,44 @@ def programs(program, divide):
     return "ten clients"
 
 
+@contextlib.contextmanager
+def without_more_memory(server):
+    """The system gives a server no more memory meanwhile."""
+    number = server.process.pid
+    soft, hard = resource.prlimit(number, resource.RLIMIT_DATA)
+    # (Linux takes 0 for no limit)
+    resource.prlimit(number, resource.RLIMIT_DATA, (1, hard))
+    try:
+        yield
+    finally:
+        resource.prlimit(number, resource.RLIMIT_DATA, (soft, hard))
+
+
 def endings(program, divide):
     """The line of a session's end has its reason, and how long the session was"""
     with Server(program, "--log", "all", policy=POLICY) as server:
         begin = time.monotonic()
         left, reset, wrong, slow = Client(server), Client(server), Client(server), Client(server, receive=4096)
+        large = Client(server)
         slow.subscribe(b"flood")
         time.sleep(0.5)
+        with without_more_memory(server):
+            # (most of a frame, which has to be kept until the rest comes)
+            large.send(b"PUB big 1000000\r\n%b" % bytes(900_000))
+            large.rest()
         left.close()
         reset.reset()
         wrong.send(b"BLAH\r\n")
         wrong.rest()
         Flood(max(400_000 // divide, 40_000), size=128).run(Client(server), [])
-        for it, reason in [(left, "client left"), (reset, "socket failed"), (wrong, "error sent"), (slow, "slow consumer")]:
+        reasons = {left: "client left", reset: "socket failed", wrong: "error sent", slow: "slow consumer", large: "no memory"}
+        for it, reason in reasons.items():
             line = line_of(server, "closed", conn=it.number)
             lasted = line.pop("lasted")
             want(400 <= lasted <= (time.monotonic() - begin) * 1000, f"{line} lasted {lasted}")
             party = {it: line[it] for it in ("conn", "peer", "user", "account")}
             exactly(line, event="closed", reason=reason, **party)
-    return "four sessions"
+    return "five sessions"
 
 
 def told_removed(program, divide):

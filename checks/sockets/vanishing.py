@@ -6,6 +6,7 @@ Server and clients have a network namespace each. Where nobody may make one, a l
 import contextlib
 import json
 import os
+import pathlib
 import re
 import subprocess
 import time
@@ -67,6 +68,20 @@ def connected(server, address=CLIENT, **options):
         return Client(server, **options)
 
 
+def seconds_until(what, why, server):
+    """Returns how long it takes until something holds: LONGEST and two seconds at most, on a quiet machine."""
+    # The system ends connections in time, whatever else it does. What the server has to do then, and this process to see it,
+    # takes longer where other programs have the processors: by as much as the threads of both waited for one.
+    def waited():
+        return server.scheduled()[1] + int(pathlib.Path("/proc/self/schedstat").read_text().split()[1])
+
+    begin, before = time.monotonic(), waited()
+    wait_for(what, why, 4 * LONGEST)
+    took, more = time.monotonic() - begin, (waited() - before) / 1e9
+    want(took < LONGEST + 2 + more, f"{why} after {took:.1f} s, and {more:.1f} s went to other programs")
+    return took
+
+
 def silent(program, divide):
     """4,096 clients that have vanished are gone within the time, and their sessions are free for others"""
     raise_descriptors(2 * SESSIONS + 200)
@@ -77,10 +92,8 @@ def silent(program, divide):
             want(one.rest() == TEXTS["connections"], "one more is let in")
             line_of(server, "limit", text="Maximum Connections Exceeded", level="error", conn=one.number)
         vanish()
-        begin = time.monotonic()
         # (a connection that doesn't linger has one descriptor, and all others are the server's own)
-        wait_for(lambda: server.descriptors() < 100, "their sockets are closed", 4 * LONGEST)
-        took = time.monotonic() - begin
+        took = seconds_until(lambda: server.descriptors() < 100, "their sockets are closed", server)
         want(took > SECONDS / 2, f"they are gone after {took:.1f} s")
         others = [connected(server, SERVER) for _ in range(100)]
         others[0].ping()
@@ -95,9 +108,7 @@ def unsent(program, divide):
         gone.subscribe(b"news")
         vanish()
         stays.send(b"PUB news 2\r\nhi\r\n")
-        begin = time.monotonic()
-        wait_for(lambda: closings(server), "its end is told", 4 * LONGEST)
-        took = time.monotonic() - begin
+        took = seconds_until(lambda: closings(server), "its end is told", server)
         line = closings(server)[0]
         want(line["conn"] == gone.number and line["reason"] == "socket failed", f"the line is {line}")
         stays.ping()
