@@ -1,8 +1,12 @@
 //! The search for a question on which two judges differ.
 //!
-//! A pattern names at each place one token or every token, and there are always tokens that no pattern of a list names. So where
-//! some subject is in one set and not in another, one of a few *samples* is: what two patterns have in common, with such a token
-//! in the place of each `*`. A search asks these, and no other.
+//! A pattern names at each place one token or every token, and there are always tokens that no pattern of a list names.
+//! So where some subject is in one set and not in another, one of a few *samples* is: what two patterns have in common,
+//! with such a token in the place of each `*`. A search asks these, and no other.
+ghost use Rattle.std.specs.Prelude.{◌≡◌, IfOk, map, take};
+ghost use Rattle.std.specs.Option.{option_map};
+ghost use Rattle.pattern_sets.specs.Asking.{part_view, reason_part};
+
 use crate::part::{Length, part_of};
 use crate::sample::sample_of;
 use base::NoMemory;
@@ -18,8 +22,8 @@ pub trait Judges {
 
     ghost differs: { Self → List Token → Option (List Token) → Bool };
 
-    /// Whether the first of them allows what a text with a queue or without one asks for, and the second doesn't. A text that is
-    /// no question is refused by both. `NoMemory` where memory could not be had.
+    /// Whether the first of them allows what a text with a queue or without one asks for, and the second doesn't. A
+    /// text that is no question is refused by both. `NoMemory` where memory could not be had.
     fn differ(&self, alloc: Global, text: &[u8], queue: Option<&Subject>) -> Result<bool, NoMemory>
         ensures { IfOk result (λ d. d ≡ differs self.now (tokens_of text.now) (option_copied queue.entry)) };
 }
@@ -68,29 +72,32 @@ pub struct Asked {
 struct Part<'a> {
     tokens: Vec<&'a [u8]>,
     queue: &'a Pattern,
-    /// Where its reason stands.
-    place: usize,
 }
 
 impl<'a> Search<'a> {
-    ghost use Rattle.std.specs.Prelude.{IfOk};
+    ghost use Rattle.std.specs.Prelude.{◌≡◌, false, map, IfOk, List};
+    ghost use Rattle.std.specs.Option.{option_map};
+    ghost use Rattle.subjects.specs.Subject.{IsSubject, Token};
+    ghost use Rattle.pattern_sets.specs.Asking.{common, part_view, reason_part, AllAlike, AreAlikeParts, IsAlike, IsAlikePart, IsAlikeWithin, IsAnswer, IsFoundOr, IsQueueFound};
     ghost use Rattle.pattern_sets.specs.Judging.{IsFound};
 
-    /// Returns the first sample that the first judge allows and the second refuses: one with the fewest tokens, and among those
-    /// the first by the order of the reasons. `None` where they judge all questions alike, of subjects or, with a tail, of
-    /// patterns that end in `>`. `NoMemory` where memory could not be had.
+    /// Returns the first sample that the first judge allows and the second refuses: one with the fewest tokens, and
+    /// among those the first by the order of the reasons. `None` where they judge all samples alike, of subjects or,
+    /// with a tail, of patterns that end in `>`. `NoMemory` where memory could not be had.
     pub fn first<J: Judges>(
         &self,
         alloc: Global,
         has_tail: bool,
         judges: &J,
     ) -> Result<Option<Asked>, NoMemory>
-        ensures { IfOk result (IsFound (J.differs judges.now)) }
+        ensures found { IfOk result (IsFound (J.differs judges.now)) }
+        ensures exact { IfOk result (IsAnswer (J.differs judges.now) self.now has_tail) }
     {
         for before in 0..self.most {
             let tokens = before + 1;
-            if let Some(found) = self.first_of(alloc, Length { tokens, has_tail }, judges)? {
-                return Ok(Some(found));
+            let found = self.first_of(alloc, Length { tokens, has_tail }, judges)?;
+            if found.is_some() {
+                return Ok(found);
             }
         }
         Ok(None)
@@ -103,58 +110,100 @@ impl<'a> Search<'a> {
         length: Length,
         judges: &J,
     ) -> Result<Option<Asked>, NoMemory>
-        ensures { IfOk result (IsFound (J.differs judges.now)) }
+        ensures { IfOk result (IsFoundOr (J.differs judges.now) (AllAlike (J.differs judges.now) self.now length.has_tail length.tokens)) }
     {
-        let others = self.refusing_parts(alloc, length)?;
-        for one in self.allowing.as_slice() {
-            if let Some(part) = part_with(alloc, &one.reason, length, one.reach)? {
-                if let Some(found) = self.first_with(alloc, &part, others.as_slice(), judges)? {
-                    return Ok(Some(found));
-                }
+        let others = parts_of(alloc, self.refusing.as_slice(), length)?;
+        let allowing = self.allowing.as_slice();
+        for one in allowing {
+            let found = self.first_by(alloc, one, others.as_slice(), length, judges)?;
+            if found.is_some() {
+                return Ok(found);
             }
         }
         Ok(None)
     }
 
-    /// Returns the parts of the reasons to refuse that have this length.
-    fn refusing_parts(&self, alloc: Global, length: Length) -> Result<Vec<Part<'a>>, NoMemory> {
-        let mut parts = Vec::new(alloc);
-        for (place, reason) in self.refusing.as_slice().iter().enumerate() {
-            if let Some(part) = part_with(alloc, reason, length, place)? {
-                parts.push(part)?;
+    /// Returns the first sample of this length that a reason to allow has with the parts that it reaches.
+    fn first_by<J: Judges>(
+        &self,
+        alloc: Global,
+        one: &Allowing<'_>,
+        others: &[Option<Part<'_>>],
+        length: Length,
+        judges: &J,
+    ) -> Result<Option<Asked>, NoMemory>
+        requires { map (option_map part_view) others.now ≡ map (reason_part length.has_tail length.tokens) self.now.refusing.items }
+        ensures { IfOk result (IsFoundOr (J.differs judges.now) (IsAlikeWithin (J.differs judges.now) self.now length.has_tail length.tokens one.now)) }
+    {
+        let part = part_with(alloc, &one.reason, length)?;
+        match part {
+            None => Ok(None),
+            Some(own) => {
+                let reached = front_of(others, one.reach);
+                let found = self.first_with(alloc, &own, reached, judges)?;
+                Ok(found)
             }
         }
-        Ok(parts)
     }
 
-    /// Returns the first sample that a part has with one of others, of those that stand before its place.
+    /// Returns the first sample that a part has with one of others.
     fn first_with<J: Judges>(
         &self,
         alloc: Global,
         one: &Part<'_>,
-        others: &[Part<'_>],
+        others: &[Option<Part<'_>>],
         judges: &J,
     ) -> Result<Option<Asked>, NoMemory>
-        ensures { IfOk result (IsFound (J.differs judges.now)) }
+        ensures { IfOk result (IsFoundOr (J.differs judges.now) (AreAlikeParts (J.differs judges.now) self.now (part_view one.now) others.now)) }
     {
         for other in others {
-            if one.place <= other.place {
-                return Ok(None);
-            }
-            let sample = sample_of(
-                alloc,
-                one.tokens.as_slice(),
-                other.tokens.as_slice(),
-                self.token,
-            )?;
-            if let Some(text) = sample {
-                let found = self.asked(alloc, text, one.queue, other.queue, judges)?;
-                if found.is_some() {
-                    return Ok(found);
-                }
+            let found = self.first_of_two(alloc, one, other, judges)?;
+            if found.is_some() {
+                return Ok(found);
             }
         }
         Ok(None)
+    }
+
+    /// Returns the sample of two parts, if there is one that is judged so, with or without a queue.
+    fn first_of_two<J: Judges>(
+        &self,
+        alloc: Global,
+        one: &Part<'_>,
+        other: &Option<Part<'_>>,
+        judges: &J,
+    ) -> Result<Option<Asked>, NoMemory>
+        ensures { IfOk result (IsFoundOr (J.differs judges.now) (IsAlikePart (J.differs judges.now) self.now (part_view one.now) (option_map part_view other.now))) }
+    {
+        match other {
+            None => Ok(None),
+            Some(other) => {
+                let found = self.sample_asked(alloc, one, other, judges)?;
+                Ok(found)
+            }
+        }
+    }
+
+    /// Returns the sample of two parts, if there is one that is judged so.
+    fn sample_asked<J: Judges>(
+        &self,
+        alloc: Global,
+        one: &Part<'_>,
+        other: &Part<'_>,
+        judges: &J,
+    ) -> Result<Option<Asked>, NoMemory>
+        ensures { IfOk result (IsFoundOr (J.differs judges.now) (IsAlikePart (J.differs judges.now) self.now (part_view one.now) (Some (part_view other.now)))) }
+    {
+        let some = one.tokens.as_slice();
+        let others = other.tokens.as_slice();
+        let sample = sample_of(alloc, some, others, self.token)?;
+        match sample {
+            None => Ok(None),
+            Some(text) => {
+                let found = self.asked(alloc, text, (one.queue, other.queue), judges)?;
+                Ok(found)
+            }
+        }
     }
 
     /// Asks a sample, with each sample of two patterns of queues if queues are asked.
@@ -162,14 +211,16 @@ impl<'a> Search<'a> {
         &self,
         alloc: Global,
         text: Vec<u8>,
-        one: &Pattern,
-        other: &Pattern,
+        queues: (&Pattern, &Pattern),
         judges: &J,
     ) -> Result<Option<Asked>, NoMemory>
-        ensures { IfOk result (IsFound (J.differs judges.now)) }
+        ensures { IfOk result (IsFoundOr (J.differs judges.now) (IsAlike (J.differs judges.now) self.now.token.now self.now.most_of_queues queues.entry.0.now queues.entry.1.now text.items)) }
     {
         match self.most_of_queues {
-            Some(most) => self.asked_with(alloc, text, (one, other), most, judges),
+            Some(most) => {
+                let found = self.asked_with(alloc, text, queues, most, judges)?;
+                Ok(found)
+            }
             None => {
                 if judges.differ(alloc, text.as_slice(), None)? {
                     return Ok(Some(Asked {
@@ -191,19 +242,39 @@ impl<'a> Search<'a> {
         most: usize,
         judges: &J,
     ) -> Result<Option<Asked>, NoMemory>
-        ensures { IfOk result (IsFound (J.differs judges.now)) }
+        ensures { IfOk result (IsFoundOr (J.differs judges.now) (IsAlike (J.differs judges.now) self.now.token.now (Some most) queues.entry.0.now queues.entry.1.now text.items)) }
     {
         for before in 0..most {
-            if let Some(queue) = self.queue_of(alloc, queues, before + 1)? {
-                if judges.differ(alloc, text.as_slice(), Some(&queue))? {
-                    return Ok(Some(Asked {
-                        subject: text,
-                        queue: Some(queue),
-                    }));
-                }
+            let queue = self.queue_asked(alloc, text.as_slice(), queues, before + 1, judges)?;
+            if queue.is_some() {
+                return Ok(Some(Asked {
+                    subject: text,
+                    queue,
+                }));
             }
         }
         Ok(None)
+    }
+
+    /// Returns the queue of so many tokens that is the sample of two patterns, if the text is judged so with it.
+    fn queue_asked<J: Judges>(
+        &self,
+        alloc: Global,
+        text: &[u8],
+        queues: (&Pattern, &Pattern),
+        tokens: usize,
+        judges: &J,
+    ) -> Result<Option<Subject>, NoMemory>
+        ensures { IfOk result (IsQueueFound (J.differs judges.now) self.now.token.now tokens queues.entry.0.now queues.entry.1.now text.now) }
+    {
+        let queue = self.queue_of(alloc, queues, tokens)?;
+        match queue {
+            None => Ok(None),
+            Some(queue) => {
+                let differs = judges.differ(alloc, text, Some(&queue))?;
+                if differs { Ok(Some(queue)) } else { Ok(None) }
+            }
+        }
     }
 
     /// Returns the queue of so many tokens that is the sample of two patterns, if there is one.
@@ -212,7 +283,9 @@ impl<'a> Search<'a> {
         alloc: Global,
         queues: (&Pattern, &Pattern),
         tokens: usize,
-    ) -> Result<Option<Subject>, NoMemory> {
+    ) -> Result<Option<Subject>, NoMemory>
+        ensures { IfOk result (λ found. (queue : List Token) → common self.now.token.now false tokens queues.entry.0.now queues.entry.1.now ≡ Some queue → IsSubject queue → found ≡ Some queue) }
+    {
         let length = Length {
             tokens,
             has_tail: false,
@@ -225,9 +298,35 @@ impl<'a> Search<'a> {
         };
         match sample_of(alloc, one.as_slice(), other.as_slice(), self.token)? {
             None => Ok(None),
-            Some(text) => subject_if(alloc, text.as_slice()),
+            Some(text) => {
+                let queue = subject_if(alloc, text.as_slice())?;
+                Ok(queue)
+            }
         }
     }
+}
+
+/// Returns the first so many of some parts, or all where there are fewer.
+fn front_of<'a, 'b>(parts: &'b [Option<Part<'a>>], count: usize) -> &'b [Option<Part<'a>>]
+    ensures { result.now ≡ take count parts.now }
+{
+    if count < parts.len() { &parts[..count] } else { parts }
+}
+
+/// Returns the part of each reason that has this length, if it has one.
+fn parts_of<'a>(
+    alloc: Global,
+    reasons: &[Reason<'a>],
+    length: Length,
+) -> Result<Vec<Option<Part<'a>>>, NoMemory>
+    ensures { IfOk result (λ parts. map (option_map part_view) parts.items ≡ map (reason_part length.has_tail length.tokens) reasons.now) }
+{
+    let mut parts = Vec::with_capacity(alloc, reasons.len())?;
+    for reason in reasons {
+        let part = part_with(alloc, reason, length)?;
+        parts.push(part)?;
+    }
+    Ok(parts)
 }
 
 /// Returns the part of a reason that has this length, if it has one.
@@ -235,14 +334,14 @@ fn part_with<'a>(
     alloc: Global,
     reason: &Reason<'a>,
     length: Length,
-    place: usize,
-) -> Result<Option<Part<'a>>, NoMemory> {
+) -> Result<Option<Part<'a>>, NoMemory>
+    ensures { IfOk result (λ part. option_map part_view part ≡ reason_part length.has_tail length.tokens reason.now) }
+{
     match part_of(alloc, reason.subject, length)? {
         None => Ok(None),
         Some(tokens) => Ok(Some(Part {
             tokens,
             queue: reason.queue,
-            place,
         })),
     }
 }
