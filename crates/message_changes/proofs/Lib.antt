@@ -1,1 +1,7 @@
+pub mod Covered
+pub mod Exact
+pub mod Members
 pub mod Questions
+pub mod Sampled
+pub mod Told
+pub mod Verdicts

@@ -1,3 +1,4 @@
+pub mod Counts
 pub mod Covering
 pub mod Exact
 pub mod Finding

@@ -33,10 +33,13 @@ all_x : (n : ℕ) → list_all is_token_byte (replicate n 120) ≡ true
 all_x zero = refl
 all_x (suc n) = all_x n
 
+longer_run : (n : ℕ) → is_literal (replicate (suc n) 120) ≡ true
+longer_run n = rw (all_x n) refl
+
 pub run_is_literal : (n : ℕ) (run : Token) → run ≡ replicate (n + 1) 120 → is_literal run ≡ true
 run_is_literal n run e =
     let more : n + 1 ≡ suc n = omega arith in
-    rw (e, more, all_x n) refl
+    ap is_literal e ∙ ap (λ m. is_literal (replicate m 120)) more ∙ longer_run n
 
 pub run_length : (n : ℕ) (run : Token) → run ≡ replicate (n + 1) 120 → n < length run
 run_length n run e = let long = ap length e ∙ length-replicate (n + 1) 120 in omega (arith, long)

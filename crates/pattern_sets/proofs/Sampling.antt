@@ -90,7 +90,7 @@ sample_law x (e ∷ es) (w ∷ ws) (u ∷ us) h b c =
 
 -- ---- a pattern's part lies over what it covers
 
-cover_parts : (qt pt st sm all : Bool) → (qt || (not pt && (st || sm) && all)) ≡ true → qt ≡ false → (pt ≡ false) × ((st || sm) ≡ true) × (all ≡ true)
+pub cover_parts : (qt pt st sm all : Bool) → (qt || (not pt && (st || sm) && all)) ≡ true → qt ≡ false → (pt ≡ false) × ((st || sm) ≡ true) × (all ≡ true)
 cover_parts true pt st sm all e f = absurd (cc)
 cover_parts false true st sm all e f = absurd (cc)
 cover_parts false false true sm true e f = (refl, refl, refl)
@@ -309,7 +309,7 @@ blur_subject x (w ∷ ws) (u ∷ us) l b h =
 
 -- ---- the laws
 
-last_in_pattern : (u : List Token) → IsPattern u → tail_is_last u ≡ true
+pub last_in_pattern : (u : List Token) → IsPattern u → tail_is_last u ≡ true
 last_in_pattern [] h = refl
 last_in_pattern (u ∷ us) h =
     let tests = and_parts (list_all is_token (u ∷ us) && tail_is_last (u ∷ us)) (leb (length (u ∷ us)) 512) h in

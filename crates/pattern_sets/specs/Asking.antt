@@ -2,12 +2,13 @@
 use Rattle.std.specs.Prelude.{◌≡◌, ◌<◌, ◌+◌, ⊤, ℕ, Bool, true, false, List, length, map, Option, Some, None}
 use Rattle.std.specs.List.{slice_index_or}
 use Rattle.std.specs.Option.{option_map}
-use Rattle.subjects.specs.Subject.{Token, IsSubject, text_of, tokens_of}
+use Rattle.subjects.specs.Fault.{subject_if}
+use Rattle.subjects.specs.Subject.{Token, IsSubject, is_token, text_of, tokens_of}
 use Rattle.pattern_sets.specs.Laws.{sample_of}
 use Rattle.pattern_sets.specs.Samples.{part, sample}
+use Rattle.pattern_sets.specs.declared.part.Part.{Part}
 use Rattle.pattern_sets.specs.declared.search.Allowing.{Allowing}
 use Rattle.pattern_sets.specs.declared.search.Asked.{Asked}
-use Rattle.pattern_sets.specs.declared.search.Part.{Part}
 use Rattle.pattern_sets.specs.declared.search.Reason.{Reason}
 use Rattle.pattern_sets.specs.declared.search.Search.{Search}
 
@@ -19,12 +20,24 @@ Judging = List Token → Option (List Token) → Bool
 abbrev pub common : Token → Bool → ℕ → List Token → List Token → Option (List Token)
 common fresh has_tail n one other = sample_of fresh (part has_tail n one) (part has_tail n other)
 
+-- the queue that a text is, if there is a text and it is one
+abbrev pub subject_by : Option (List ℕ) → Option (List Token)
+subject_by None = None
+subject_by (Some text) = subject_if text
+
 -- a queue that is asked about: none, or the sample of two patterns of one of so many lengths
 abbrev pub IsQueue : Token → Option ℕ → List Token → List Token → Option (List Token) → Type 0
 IsQueue fresh None one other None = ⊤
 IsQueue fresh None one other (Some queue) = ⊥
 IsQueue fresh (Some most) one other None = ⊥
 IsQueue fresh (Some most) one other (Some queue) = (n : ℕ) × (n < most) × (common fresh false (n + 1) one other ≡ Some queue) × IsSubject queue
+
+-- a text isn't judged to differ with the queue of so many tokens that is the sample of two patterns, nor with those up to so many
+abbrev pub IsQueueAlike : Judging → Token → ℕ → List Token → List Token → List ℕ → Type 0
+IsQueueAlike differs fresh n one other text = (queue : List Token) → common fresh false n one other ≡ Some queue → IsSubject queue → differs (tokens_of text) (Some queue) ≡ false
+
+abbrev pub AreQueuesAlike : Judging → Token → ℕ → List Token → List Token → List ℕ → Type 0
+AreQueuesAlike differs fresh most one other text = (n : ℕ) → n < most → IsQueueAlike differs fresh (n + 1) one other text
 
 -- a text isn't judged to differ, with whatever queue it is asked
 abbrev pub IsAlike : Judging → Token → Option ℕ → List Token → List Token → List ℕ → Type 0
@@ -40,21 +53,29 @@ abbrev pub AreAlike : Judging → Search → Bool → ℕ → Reason → Reason 
 AreAlike differs search has_tail n one other =
     IsAlikeIf differs search.token.now search.most_of_queues one.queue.now other.queue.now (common search.token.now has_tail n one.subject.now other.subject.now)
 
--- nor those of a reason to allow and the reasons that it reaches
-abbrev pub IsAlikeWithin : Judging → Search → Bool → ℕ → Allowing → Type 0
-IsAlikeWithin differs search has_tail n one = (j : ℕ) (r : Reason) → j < length search.refusing.items → j < one.reach →
-    AreAlike differs search has_tail n one.reason (slice_index_or search.refusing.items j r)
+-- Nor those of a reason to allow and the reasons that it reaches.
+pub record IsAlikeWithin (differs : Judging) (search : Search) (has_tail : Bool) (n : ℕ) (one : Allowing) : Type 0 where
+  pub each : (j : ℕ) (r : Reason) → j < length search.refusing.items → j < one.reach → AreAlike differs search has_tail n one.reason (slice_index_or search.refusing.items j r)
 
 abbrev pub AllAlike : Judging → Search → Bool → ℕ → Type 0
 AllAlike differs search has_tail n = (i : ℕ) (a : Allowing) → i < length search.allowing.items → IsAlikeWithin differs search has_tail n (slice_index_or search.allowing.items i a)
 
--- what is found is judged to differ, and else nothing that is asked
-abbrev pub IsFoundOr : Judging → Type 0 → Option Asked → Type 0
-IsFoundOr differs Alike None = Alike
-IsFoundOr differs Alike (Some asked) = differs (tokens_of asked.subject.items) asked.queue ≡ true
+-- What is found is judged to differ, and has so many tokens.
+pub record IsFoundAt (differs : Judging) (fresh : Token) (n : ℕ) (asked : Asked) : Type 0 where
+  pub judged : differs (tokens_of asked.subject.items) asked.queue ≡ true
+  pub length_is : is_token fresh ≡ true → 0 < n → length (tokens_of asked.subject.items) ≡ n
 
-abbrev pub IsAnswer : Judging → Search → Bool → Option Asked → Type 0
-IsAnswer differs search has_tail answer = IsFoundOr differs ((n : ℕ) → n < search.most → AllAlike differs search has_tail (n + 1)) answer
+-- What is found is judged to differ, and no sample with fewer tokens is.
+pub record IsFirst (differs : Judging) (search : Search) (has_tail : Bool) (asked : Asked) : Type 0 where
+  pub before : ℕ
+  pub is_asked : before < search.most
+  pub found : IsFoundAt differs search.token.now (before + 1) asked
+  pub fewest : (n : ℕ) → n < before → AllAlike differs search has_tail (n + 1)
+
+-- what a search finds is judged to differ and has the fewest tokens, and where it finds nothing each sample is judged alike
+abbrev pub IsExact : Judging → Search → Bool → Option Asked → Type 0
+IsExact differs search has_tail None = (n : ℕ) → n < search.most → AllAlike differs search has_tail (n + 1)
+IsExact differs search has_tail (Some asked) = IsFirst differs search has_tail asked
 
 -- the part of a reason of one length, and its queue
 abbrev pub reason_part : Bool → ℕ → Reason → Option (List Token × List Token)
@@ -71,8 +92,3 @@ IsAlikePart differs search one (Some other) = IsAlikeIf differs search.token.now
 abbrev pub AreAlikeParts : Judging → Search → List Token × List Token → List (Option Part) → Type 0
 AreAlikeParts differs search one others = (j : ℕ) (d : Option Part) → j < length others →
     IsAlikePart differs search one (option_map part_view (slice_index_or others j d))
-
--- a queue with which a text is judged to differ, or the sample of two patterns of one length is none
-abbrev pub IsQueueFound : Judging → Token → ℕ → List Token → List Token → List ℕ → Option (List Token) → Type 0
-IsQueueFound differs fresh n one other text None = (queue : List Token) → common fresh false n one other ≡ Some queue → IsSubject queue → differs (tokens_of text) (Some queue) ≡ false
-IsQueueFound differs fresh n one other text (Some queue) = differs (tokens_of text) (Some queue) ≡ true

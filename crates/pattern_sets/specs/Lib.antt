@@ -3,3 +3,4 @@ pub mod Judging
 pub mod Laws
 pub mod Longest
 pub mod Samples
+pub mod Sets

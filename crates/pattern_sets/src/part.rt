@@ -1,6 +1,8 @@
 //! The part of a pattern that has subjects of one length.
-ghost use Rattle.std.specs.Prelude.{◌≡◌, ◌++◌, IfOk, OnOk, is_some, map};
+ghost use Rattle.std.specs.Prelude.{◌≡◌, ◌++◌, IfOk, OnOk, is_some, map, true};
+ghost use Rattle.std.specs.List.{list_all};
 ghost use Rattle.std.specs.Option.{option_map};
+ghost use Rattle.subjects.specs.Subject.{is_token};
 ghost use Rattle.pattern_sets.specs.Samples.{filled, part};
 
 use base::NoMemory;
@@ -12,6 +14,14 @@ use subjects::{Pattern, is_tail};
 pub struct Length {
     pub tokens: usize,
     pub has_tail: bool,
+}
+
+/// The part of a reason that has one length.
+#[derive(Drop)]
+pub(crate) struct Part<'a> {
+    pub tokens: Vec<&'a [u8]>,
+    pub queue: &'a Pattern,
+    ghost valid: { list_all is_token (map (λ t. t.now) tokens.items) ≡ true },
 }
 
 /// Returns the part of a pattern of this length, if it has one: its own tokens, and for its `>` as many `*` as are

@@ -3,11 +3,13 @@
 //! A pattern names at each place one token or every token, and there are always tokens that no pattern of a list names.
 //! So where some subject is in one set and not in another, one of a few *samples* is: what two patterns have in common,
 //! with such a token in the place of each `*`. A search asks these, and no other.
-ghost use Rattle.std.specs.Prelude.{◌≡◌, IfOk, map, take};
+ghost use Rattle.std.specs.Prelude.{◌≡◌, false, map, take, true, IfOk, IfSome, None, Some, is_some};
 ghost use Rattle.std.specs.Option.{option_map};
-ghost use Rattle.pattern_sets.specs.Asking.{part_view, reason_part};
+ghost use Rattle.subjects.specs.Subject.{text_of, tokens_of};
+ghost use Rattle.pattern_sets.specs.Asking.{part_view, reason_part, subject_by};
+ghost use Rattle.pattern_sets.specs.Laws.{sample_of};
 
-use crate::part::{Length, part_of};
+use crate::part::{Length, Part, part_of};
 use crate::sample::sample_of;
 use base::NoMemory;
 use std::alloc::Global;
@@ -67,18 +69,11 @@ pub struct Asked {
     pub queue: Option<Subject>,
 }
 
-/// The part of a reason that has one length.
-#[derive(Drop)]
-struct Part<'a> {
-    tokens: Vec<&'a [u8]>,
-    queue: &'a Pattern,
-}
-
 impl<'a> Search<'a> {
-    ghost use Rattle.std.specs.Prelude.{◌≡◌, false, map, IfOk, List};
+    ghost use Rattle.std.specs.Prelude.{◌≡◌, false, length, map, true, IfOk, IfSome, Some, is_some};
     ghost use Rattle.std.specs.Option.{option_map};
-    ghost use Rattle.subjects.specs.Subject.{IsSubject, Token};
-    ghost use Rattle.pattern_sets.specs.Asking.{common, part_view, reason_part, AllAlike, AreAlikeParts, IsAlike, IsAlikePart, IsAlikeWithin, IsAnswer, IsFoundOr, IsQueueFound};
+    ghost use Rattle.subjects.specs.Subject.{text_of, tokens_of};
+    ghost use Rattle.pattern_sets.specs.Asking.{common, part_view, reason_part, subject_by, AllAlike, AreAlikeParts, AreQueuesAlike, IsAlike, IsAlikePart, IsAlikeWithin, IsExact, IsFoundAt, IsQueueAlike};
     ghost use Rattle.pattern_sets.specs.Judging.{IsFound};
 
     /// Returns the first sample that the first judge allows and the second refuses: one with the fewest tokens, and
@@ -91,7 +86,7 @@ impl<'a> Search<'a> {
         judges: &J,
     ) -> Result<Option<Asked>, NoMemory>
         ensures found { IfOk result (IsFound (J.differs judges.now)) }
-        ensures exact { IfOk result (IsAnswer (J.differs judges.now) self.now has_tail) }
+        ensures exact { IfOk result (IsExact (J.differs judges.now) self.now has_tail) }
     {
         for before in 0..self.most {
             let tokens = before + 1;
@@ -110,12 +105,15 @@ impl<'a> Search<'a> {
         length: Length,
         judges: &J,
     ) -> Result<Option<Asked>, NoMemory>
-        ensures { IfOk result (IsFoundOr (J.differs judges.now) (AllAlike (J.differs judges.now) self.now length.has_tail length.tokens)) }
+        ensures found { IfOk result (λ found. IfSome found (IsFoundAt (J.differs judges.now) self.now.token.now length.tokens)) }
+        ensures alike { IfOk result (λ found. is_some found ≡ false → AllAlike (J.differs judges.now) self.now length.has_tail length.tokens) }
     {
-        let others = parts_of(alloc, self.refusing.as_slice(), length)?;
+        let refusing = self.refusing.as_slice();
         let allowing = self.allowing.as_slice();
+        let parts = parts_of(alloc, refusing, length)?;
+        let others = parts.as_slice();
         for one in allowing {
-            let found = self.first_by(alloc, one, others.as_slice(), length, judges)?;
+            let found = self.first_by(alloc, one, others, length, judges)?;
             if found.is_some() {
                 return Ok(found);
             }
@@ -133,13 +131,14 @@ impl<'a> Search<'a> {
         judges: &J,
     ) -> Result<Option<Asked>, NoMemory>
         requires { map (option_map part_view) others.now ≡ map (reason_part length.has_tail length.tokens) self.now.refusing.items }
-        ensures { IfOk result (IsFoundOr (J.differs judges.now) (IsAlikeWithin (J.differs judges.now) self.now length.has_tail length.tokens one.now)) }
+        ensures found { IfOk result (λ found. IfSome found (IsFoundAt (J.differs judges.now) self.now.token.now length.tokens)) }
+        ensures alike { IfOk result (λ found. is_some found ≡ false → IsAlikeWithin (J.differs judges.now) self.now length.has_tail length.tokens one.now) }
     {
+        let reached = front_of(others, one.reach);
         let part = part_with(alloc, &one.reason, length)?;
         match part {
             None => Ok(None),
             Some(own) => {
-                let reached = front_of(others, one.reach);
                 let found = self.first_with(alloc, &own, reached, judges)?;
                 Ok(found)
             }
@@ -154,7 +153,8 @@ impl<'a> Search<'a> {
         others: &[Option<Part<'_>>],
         judges: &J,
     ) -> Result<Option<Asked>, NoMemory>
-        ensures { IfOk result (IsFoundOr (J.differs judges.now) (AreAlikeParts (J.differs judges.now) self.now (part_view one.now) others.now)) }
+        ensures found { IfOk result (λ found. IfSome found (IsFoundAt (J.differs judges.now) self.now.token.now (length (part_view one.now).0))) }
+        ensures alike { IfOk result (λ found. is_some found ≡ false → AreAlikeParts (J.differs judges.now) self.now (part_view one.now) others.now) }
     {
         for other in others {
             let found = self.first_of_two(alloc, one, other, judges)?;
@@ -173,7 +173,8 @@ impl<'a> Search<'a> {
         other: &Option<Part<'_>>,
         judges: &J,
     ) -> Result<Option<Asked>, NoMemory>
-        ensures { IfOk result (IsFoundOr (J.differs judges.now) (IsAlikePart (J.differs judges.now) self.now (part_view one.now) (option_map part_view other.now))) }
+        ensures found { IfOk result (λ found. IfSome found (IsFoundAt (J.differs judges.now) self.now.token.now (length (part_view one.now).0))) }
+        ensures alike { IfOk result (λ found. is_some found ≡ false → IsAlikePart (J.differs judges.now) self.now (part_view one.now) (option_map part_view other.now)) }
     {
         match other {
             None => Ok(None),
@@ -192,7 +193,8 @@ impl<'a> Search<'a> {
         other: &Part<'_>,
         judges: &J,
     ) -> Result<Option<Asked>, NoMemory>
-        ensures { IfOk result (IsFoundOr (J.differs judges.now) (IsAlikePart (J.differs judges.now) self.now (part_view one.now) (Some (part_view other.now)))) }
+        ensures found { IfOk result (λ found. IfSome found (IsFoundAt (J.differs judges.now) self.now.token.now (length (part_view one.now).0))) }
+        ensures alike { IfOk result (λ found. is_some found ≡ false → IsAlikePart (J.differs judges.now) self.now (part_view one.now) (Some (part_view other.now))) }
     {
         let some = one.tokens.as_slice();
         let others = other.tokens.as_slice();
@@ -200,57 +202,55 @@ impl<'a> Search<'a> {
         match sample {
             None => Ok(None),
             Some(text) => {
-                let found = self.asked(alloc, text, (one.queue, other.queue), judges)?;
+                let bytes = text.as_slice();
+                let queue = self.asked(alloc, bytes, (one.queue, other.queue), judges)?;
+                let found = question_of(text, queue);
                 Ok(found)
             }
         }
     }
 
-    /// Asks a sample, with each sample of two patterns of queues if queues are asked.
+    /// Asks a text, with each sample of two patterns of queues if queues are asked. Returns the queue with which it is
+    /// judged so, or that it is without one.
     fn asked<J: Judges>(
         &self,
         alloc: Global,
-        text: Vec<u8>,
+        text: &[u8],
         queues: (&Pattern, &Pattern),
         judges: &J,
-    ) -> Result<Option<Asked>, NoMemory>
-        ensures { IfOk result (IsFoundOr (J.differs judges.now) (IsAlike (J.differs judges.now) self.now.token.now self.now.most_of_queues queues.entry.0.now queues.entry.1.now text.items)) }
+    ) -> Result<Option<Option<Subject>>, NoMemory>
+        ensures found { IfOk result (λ found. IfSome found (λ queue. J.differs judges.now (tokens_of text.now) queue ≡ true)) }
+        ensures alike { IfOk result (λ found. is_some found ≡ false → IsAlike (J.differs judges.now) self.now.token.now self.now.most_of_queues queues.entry.0.now queues.entry.1.now text.now) }
     {
         match self.most_of_queues {
-            Some(most) => {
-                let found = self.asked_with(alloc, text, queues, most, judges)?;
+            None => {
+                let found = asked_alone(alloc, text, judges)?;
                 Ok(found)
             }
-            None => {
-                if judges.differ(alloc, text.as_slice(), None)? {
-                    return Ok(Some(Asked {
-                        subject: text,
-                        queue: None,
-                    }));
-                }
-                Ok(None)
+            Some(most) => {
+                let queue = self.asked_with(alloc, text, queues, most, judges)?;
+                let found = with_queue(queue);
+                Ok(found)
             }
         }
     }
 
-    /// Asks a sample with each sample of two patterns of queues.
+    /// Asks a text with each sample of two patterns of queues, up to so many tokens.
     fn asked_with<J: Judges>(
         &self,
         alloc: Global,
-        text: Vec<u8>,
+        text: &[u8],
         queues: (&Pattern, &Pattern),
         most: usize,
         judges: &J,
-    ) -> Result<Option<Asked>, NoMemory>
-        ensures { IfOk result (IsFoundOr (J.differs judges.now) (IsAlike (J.differs judges.now) self.now.token.now (Some most) queues.entry.0.now queues.entry.1.now text.items)) }
+    ) -> Result<Option<Subject>, NoMemory>
+        ensures found { IfOk result (λ found. IfSome found (λ queue. J.differs judges.now (tokens_of text.now) (Some queue) ≡ true)) }
+        ensures alike { IfOk result (λ found. is_some found ≡ false → AreQueuesAlike (J.differs judges.now) self.now.token.now most queues.entry.0.now queues.entry.1.now text.now) }
     {
         for before in 0..most {
-            let queue = self.queue_asked(alloc, text.as_slice(), queues, before + 1, judges)?;
+            let queue = self.queue_asked(alloc, text, queues, before + 1, judges)?;
             if queue.is_some() {
-                return Ok(Some(Asked {
-                    subject: text,
-                    queue,
-                }));
+                return Ok(queue);
             }
         }
         Ok(None)
@@ -265,14 +265,15 @@ impl<'a> Search<'a> {
         tokens: usize,
         judges: &J,
     ) -> Result<Option<Subject>, NoMemory>
-        ensures { IfOk result (IsQueueFound (J.differs judges.now) self.now.token.now tokens queues.entry.0.now queues.entry.1.now text.now) }
+        ensures found { IfOk result (λ found. IfSome found (λ queue. J.differs judges.now (tokens_of text.now) (Some queue) ≡ true)) }
+        ensures alike { IfOk result (λ found. is_some found ≡ false → IsQueueAlike (J.differs judges.now) self.now.token.now tokens queues.entry.0.now queues.entry.1.now text.now) }
     {
-        let queue = self.queue_of(alloc, queues, tokens)?;
-        match queue {
+        let found = self.queue_of(alloc, queues, tokens)?;
+        match found {
             None => Ok(None),
             Some(queue) => {
-                let differs = judges.differ(alloc, text, Some(&queue))?;
-                if differs { Ok(Some(queue)) } else { Ok(None) }
+                let asked = asked_in(alloc, text, queue, judges)?;
+                Ok(asked)
             }
         }
     }
@@ -284,24 +285,116 @@ impl<'a> Search<'a> {
         queues: (&Pattern, &Pattern),
         tokens: usize,
     ) -> Result<Option<Subject>, NoMemory>
-        ensures { IfOk result (λ found. (queue : List Token) → common self.now.token.now false tokens queues.entry.0.now queues.entry.1.now ≡ Some queue → IsSubject queue → found ≡ Some queue) }
+        ensures { IfOk result (λ found. found ≡ subject_by (option_map text_of (common self.now.token.now false tokens queues.entry.0.now queues.entry.1.now))) }
     {
         let length = Length {
             tokens,
             has_tail: false,
         };
-        let Some(one) = part_of(alloc, queues.0, length)? else {
-            return Ok(None);
-        };
-        let Some(other) = part_of(alloc, queues.1, length)? else {
-            return Ok(None);
-        };
-        match sample_of(alloc, one.as_slice(), other.as_slice(), self.token)? {
-            None => Ok(None),
-            Some(text) => {
-                let queue = subject_if(alloc, text.as_slice())?;
-                Ok(queue)
-            }
+        let one = part_of(alloc, queues.0, length)?;
+        let other = part_of(alloc, queues.1, length)?;
+        let text = sample_if(alloc, one, other, self.token)?;
+        let queue = queue_by(alloc, text)?;
+        Ok(queue)
+    }
+}
+
+/// Asks a text without a queue.
+fn asked_alone<J: Judges>(
+    alloc: Global,
+    text: &[u8],
+    judges: &J,
+) -> Result<Option<Option<Subject>>, NoMemory>
+    ensures found { IfOk result (λ found. IfSome found (λ queue. J.differs judges.now (tokens_of text.now) queue ≡ true)) }
+    ensures alike { IfOk result (λ found. is_some found ≡ false → J.differs judges.now (tokens_of text.now) None ≡ false) }
+{
+    let differs = judges.differ(alloc, text, None)?;
+    if differs { Ok(Some(None)) } else { Ok(None) }
+}
+
+/// Asks a text with a queue, which is returned if it is judged so.
+fn asked_in<J: Judges>(
+    alloc: Global,
+    text: &[u8],
+    queue: Subject,
+    judges: &J,
+) -> Result<Option<Subject>, NoMemory>
+    ensures found { IfOk result (λ found. IfSome found (λ queue. J.differs judges.now (tokens_of text.now) (Some queue) ≡ true)) }
+    ensures alike { IfOk result (λ found. is_some found ≡ false → J.differs judges.now (tokens_of text.now) (Some queue) ≡ false) }
+{
+    let differs = judges.differ(alloc, text, Some(&queue))?;
+    if differs { Ok(Some(queue)) } else { Ok(None) }
+}
+
+/// A question's queue, from the queue that was found.
+fn with_queue(queue: Option<Subject>) -> Option<Option<Subject>>
+    ensures { result ≡ option_map (λ q. Some q) queue }
+{
+    match queue {
+        None => None,
+        Some(queue) => Some(Some(queue)),
+    }
+}
+
+/// The question with this text, if a queue was found, or that it is asked without one.
+fn question_of(text: Vec<u8>, queue: Option<Option<Subject>>) -> Option<Asked>
+    ensures none { is_some result ≡ is_some queue }
+    ensures same { IfSome result (λ asked. (queue ≡ Some asked.queue) × (asked.subject.items ≡ text.items)) }
+{
+    match queue {
+        None => None,
+        Some(queue) => Some(Asked {
+            subject: text,
+            queue,
+        }),
+    }
+}
+
+/// Returns the text of the sample of two parts, if there are both and they have something in common.
+fn sample_if(
+    alloc: Global,
+    one: Option<Vec<&[u8]>>,
+    other: Option<Vec<&[u8]>>,
+    fresh: &[u8],
+) -> Result<Option<Vec<u8>>, NoMemory>
+    ensures { IfOk result (λ found. option_map (λ text. text.items) found ≡ option_map text_of (sample_of fresh.now (option_map (λ ts. map (λ t. t.now) ts.items) one.entry) (option_map (λ ts. map (λ t. t.now) ts.items) other.entry))) }
+{
+    match one {
+        None => Ok(None),
+        Some(one) => {
+            let found = sample_beside(alloc, one.as_slice(), other, fresh)?;
+            Ok(found)
+        }
+    }
+}
+
+/// Returns the text of the sample of a part and another, if there is that one and they have something in common.
+fn sample_beside(
+    alloc: Global,
+    one: &[&[u8]],
+    other: Option<Vec<&[u8]>>,
+    fresh: &[u8],
+) -> Result<Option<Vec<u8>>, NoMemory>
+    ensures { IfOk result (λ found. option_map (λ text. text.items) found ≡ option_map text_of (sample_of fresh.now (Some (map (λ t. t.now) one.now)) (option_map (λ ts. map (λ t. t.now) ts.items) other.entry))) }
+{
+    match other {
+        None => Ok(None),
+        Some(other) => {
+            let found = sample_of(alloc, one, other.as_slice(), fresh)?;
+            Ok(found)
+        }
+    }
+}
+
+/// Returns the queue with this text, if there is a text and it is one.
+fn queue_by(alloc: Global, text: Option<Vec<u8>>) -> Result<Option<Subject>, NoMemory>
+    ensures { IfOk result (λ found. found ≡ subject_by (option_map (λ t. t.items) text)) }
+{
+    match text {
+        None => Ok(None),
+        Some(text) => {
+            let queue = subject_if(alloc, text.as_slice())?;
+            Ok(queue)
         }
     }
 }
@@ -337,11 +430,17 @@ fn part_with<'a>(
 ) -> Result<Option<Part<'a>>, NoMemory>
     ensures { IfOk result (λ part. option_map part_view part ≡ reason_part length.has_tail length.tokens reason.now) }
 {
-    match part_of(alloc, reason.subject, length)? {
+    // (the tokens tell the prover that they are those of a pattern)
+    let _ = reason.subject.tokens();
+    let found = part_of(alloc, reason.subject, length)?;
+    match found {
         None => Ok(None),
-        Some(tokens) => Ok(Some(Part {
-            tokens,
-            queue: reason.queue,
-        })),
+        Some(tokens) => {
+            let part = Part {
+                tokens,
+                queue: reason.queue,
+            };
+            Ok(Some(part))
+        }
     }
 }

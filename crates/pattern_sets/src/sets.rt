@@ -1,16 +1,18 @@
 //! What one set of subjects has and another hasn't.
-ghost use Rattle.std.specs.Prelude.{◌≡◌, ◌++◌, ◌∷◌, [], IfOk, length, map};
+ghost use Rattle.std.specs.Prelude.{◌≡◌, ◌++◌, ◌∷◌, [], false, length, map, true, IfOk};
 ghost use Rattle.std.specs.List.{list_any};
 ghost use Rattle.std.specs.Option.{option_map};
-ghost use Rattle.subjects.specs.Subject.{in_set, tokens_of};
-ghost use Rattle.pattern_sets.specs.Judging.{is_between, is_member, HasNone, IsDifference};
+ghost use Rattle.subjects.specs.Subject.{in_set, is_literal, is_subject, tokens_of};
+ghost use Rattle.pattern_sets.specs.Judging.{HasNone, IsDifference};
+ghost use Rattle.pattern_sets.specs.Laws.{has_token};
 ghost use Rattle.pattern_sets.specs.Longest.{most_tokens};
+ghost use Rattle.pattern_sets.specs.Sets.{IsSearch};
 
 use crate::fresh::fresh_token;
 use crate::search::{Allowing, Asked, Judges, Reason, Search};
 use base::NoMemory;
 use std::alloc::Global;
-use subjects::{Pattern, Subject};
+use subjects::{Pattern, Subject, SubjectRef};
 
 /// The subjects of some patterns, but for those of others.
 #[derive(Clone, Copy, Debug)]
@@ -40,7 +42,11 @@ struct Both<'a> {
 }
 
 impl<'a> Judges for Both<'a> {
-    ghost differs = { λ both asked queue. is_between (λ p. p.now) both.set.patterns.now both.set.less.now both.other.patterns.now both.other.less.now asked };
+    ghost use Rattle.std.specs.Prelude.{◌&&◌};
+    ghost use Rattle.subjects.specs.Subject.{is_subject};
+    ghost use Rattle.pattern_sets.specs.Judging.{is_between};
+
+    ghost differs = { λ both asked queue. is_subject asked && is_between (λ p. p.now) both.set.patterns.now both.set.less.now both.other.patterns.now both.other.less.now asked };
 
     fn differ(
         &self,
@@ -48,12 +54,33 @@ impl<'a> Judges for Both<'a> {
         text: &[u8],
         _queue: Option<&Subject>,
     ) -> Result<bool, NoMemory> {
-        Ok(self.set.has(text) && !self.other.has(text))
+        Ok(is_subject(text) && self.are_parted_by(text))
     }
 }
 
-/// Returns the text of a subject that a set has and another hasn't. `None` exactly where the other has every subject of
-/// the set. `NoMemory` where memory could not be had.
+impl<'a> Both<'a> {
+    ghost use Rattle.std.specs.Prelude.{◌≡◌};
+    ghost use Rattle.subjects.specs.Subject.{tokens_of};
+    ghost use Rattle.pattern_sets.specs.Judging.{is_between};
+
+    /// Whether the one set has the subject with this text, and the other hasn't.
+    fn are_parted_by(&self, text: &[u8]) -> bool
+        ensures { result ≡ is_between (λ p. p.now) self.now.set.patterns.now self.now.set.less.now self.now.other.patterns.now self.now.other.less.now (tokens_of text.now) }
+    {
+        self.set.has(text) && !self.other.has(text)
+    }
+}
+
+/// Whether a text is a subject.
+fn is_subject(text: &[u8]) -> bool
+    ensures { result ≡ is_subject (tokens_of text.now) }
+{
+    let subject = SubjectRef::of(text);
+    subject.is_some()
+}
+
+/// Returns the text of a subject that a set has and another hasn't, one with the fewest tokens. `None` exactly where the
+/// other has every subject of the set. `NoMemory` where memory could not be had.
 pub fn difference(
     alloc: Global,
     set: PatternSet<'_>,
@@ -63,20 +90,42 @@ pub fn difference(
 {
     let all = all_of(alloc, set, other)?;
     let any = any_pattern(alloc)?;
-    let token = fresh_token(alloc, all.as_slice())?;
-    let allowing = allowing_of(alloc, set.patterns, &any, other.less.len() + 1)?;
-    let refusing = refusing_of(alloc, other.less, &any)?;
-    let most = most_tokens(all.as_slice());
-    let search = Search {
-        allowing,
-        refusing,
-        token: token.as_slice(),
-        most,
-        most_of_queues: None,
-    };
+    let patterns = all.as_slice();
+    let token = fresh_token(alloc, patterns)?;
+    let fresh = token.as_slice();
+    let search = search_of(alloc, (set, other), patterns, fresh, &any)?;
     let found = search.first(alloc, false, &Both { set, other })?;
     let text = text_of(found);
     Ok(text)
+}
+
+/// Returns the search for what the first set has and the second hasn't, with all their patterns, a token that none has
+/// and the pattern `>`.
+fn search_of<'a>(
+    alloc: Global,
+    sets: (PatternSet<'a>, PatternSet<'a>),
+    all: &[&Pattern],
+    token: &'a [u8],
+    any: &'a Pattern,
+) -> Result<Search<'a>, NoMemory>
+    requires whole { all.now ≡ sets.0.patterns.now ++ sets.0.less.now ++ sets.1.patterns.now ++ sets.1.less.now }
+    requires literal { is_literal token.now ≡ true }
+    requires fresh { list_any (λ p. has_token token.now p.now) all.now ≡ false }
+    requires any { any.now ≡ (62 ∷ []) ∷ [] }
+    ensures { IfOk result (IsSearch (λ p. p.now) sets.entry.0.patterns.now sets.entry.0.less.now sets.entry.1.patterns.now sets.entry.1.less.now) }
+{
+    let reach = sets.1.less.len() + 1;
+    let allowing = allowing_of(alloc, sets.0.patterns, any, reach)?;
+    let refusing = refusing_of(alloc, sets.1.less, any)?;
+    let most = most_tokens(all);
+    let search = Search {
+        allowing,
+        refusing,
+        token,
+        most,
+        most_of_queues: None,
+    };
+    Ok(search)
 }
 
 /// Returns the patterns of two sets.
@@ -163,9 +212,10 @@ fn count_tokens(pattern: &Pattern) -> usize
     ensures { result ≡ length pattern.now }
 {
     let mut count: usize = 0;
-    let mut tokens = pattern.tokens();
-    while tokens.next_piece().is_some() {
-        count = count.saturating_add(1);
+    let mut rest = pattern.tokens();
+    while let Some(token) = rest.next_piece() {
+        let _ = token;
+        count += 1;
     }
     count
 }

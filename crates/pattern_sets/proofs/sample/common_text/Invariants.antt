@@ -1,7 +1,7 @@
 -- what is left completes the text so far
 use Rattle.std.proofs.Common.{◌≡◌, ◌++◌, drop, map}
+use Rattle.subjects.specs.Outside.{dotted}
 use Rattle.pattern_sets.specs.Samples.{either_each}
-use Rattle.pattern_sets.proofs.Texts.{dotted}
 use Rattle.pattern_sets.proofs.sample.common_text.Given as goal
 
 abbrev pub invariant-loop-at : goal.invariant-loop-at
