@@ -531,8 +531,8 @@ module _ (kind : MessageKind) (one other : Rules) where
           (λ w t asked sample. ap (λ (c : Bool). if c then by_list kind (entries_of one.allow) t asked else true) h)
 
       allowed_simple : IsSimple kind → has_list kind one ≡ true → by_whole kind (entries_of one.allow) u queue ≡ true → IsAllowedBy u queue
-      allowed_simple simple h yes =
-          let found = found_in (has u queue) (views (Whole kind) any (entries_of one.allow)) yes in
+      allowed_simple simple h holds =
+          let found = found_in (has u queue) (views (Whole kind) any (entries_of one.allow)) holds in
           let o = of_views (Whole kind) found.0 (entries_of one.allow) found.1 in
           let had : has u queue (view_in (Whole kind) any o.entry) ≡ true = subst (λ (y : View). has u queue y ≡ true) (sym o.is) found.2 in
           let plain = simple.unqueued (and_parts (has_allow kind) (is_some one.allow) h).0 in
@@ -546,8 +546,8 @@ module _ (kind : MessageKind) (one other : Rules) where
 
       -- by an entry for queues
       allowed_named : IsWithQueues kind → has_list kind one ≡ true → list_any (has u queue) (views Queued any (entries_of one.allow)) ≡ true → IsAllowedBy u queue
-      allowed_named q h yes =
-          let found = found_in (has u queue) (views Queued any (entries_of one.allow)) yes in
+      allowed_named q h holds =
+          let found = found_in (has u queue) (views Queued any (entries_of one.allow)) holds in
           let o = of_views Queued found.0 (entries_of one.allow) found.1 in
           let same : view_in (Whole kind) any o.entry ≡ view_in Queued any o.entry = ap (λ (c : Bool). (o.entry.subject, if c then part_or any o.entry.queue else any)) q.queues in
           let had : has u queue (view_in (Whole kind) any o.entry) ≡ true = subst (λ (y : View). has u queue y ≡ true) (sym (same ∙ o.is)) found.2 in
@@ -566,8 +566,8 @@ module _ (kind : MessageKind) (one other : Rules) where
 
       -- by a plain entry, where none for queues has its subjects
       allowed_plain : IsWithQueues kind → has_list kind one ≡ true → list_any (has_subject u) (views QueuedSubjects any (entries_of one.allow)) ≡ false → list_any (plain_covers u) (entries_of one.allow) ≡ true → IsAllowedBy u queue
-      allowed_plain q h none yes =
-          let found = found_in (plain_covers u) (entries_of one.allow) yes in
+      allowed_plain q h none holds =
+          let found = found_in (plain_covers u) (entries_of one.allow) holds in
           let parts = and_parts (is_plain found.0) (covers found.0.subject u) found.2 in
           let every : queue_in (Whole kind) any found.0 ≡ any = whole_plain (has_queue kind) found.0.queue parts.0 in
           let had : has u queue (view_in (Whole kind) any found.0) ≡ true =
@@ -587,7 +587,7 @@ module _ (kind : MessageKind) (one other : Rules) where
                 (two (is_plain found.0) (covers found.0.subject t) parts.0 (and_parts (covers found.0.subject t) (queue_has (queue_in (Whole kind) any found.0) asked) sample.first).0)))
 
       allowed_queues : IsWithQueues kind → has_list kind one ≡ true → by_queue (entries_of one.allow) u queue ≡ true → IsAllowedBy u queue
-      allowed_queues q h yes = by_around (list_any (has_subject u) (views QueuedSubjects any (entries_of one.allow))) refl yes
+      allowed_queues q h holds = by_around (list_any (has_subject u) (views QueuedSubjects any (entries_of one.allow))) refl holds
         where
           by_around : (c : Bool) → list_any (has_subject u) (views QueuedSubjects any (entries_of one.allow)) ≡ c →
               (if c then list_any (has u queue) (views Queued any (entries_of one.allow)) else list_any (plain_covers u) (entries_of one.allow)) ≡ true → IsAllowedBy u queue
@@ -595,7 +595,7 @@ module _ (kind : MessageKind) (one other : Rules) where
           by_around false e f = allowed_plain q h e f
 
       allowed : permitted kind one u queue ≡ true → IsAllowedBy u queue
-      allowed yes = by_listed (has_list kind one) refl yes
+      allowed holds = by_listed (has_list kind one) refl holds
         where
           by_kinds : IsSimple kind ⊎ IsWithQueues kind → has_list kind one ≡ true → by_list kind (entries_of one.allow) u queue ≡ true → IsAllowedBy u queue
           by_kinds (inl simple) h f = allowed_simple simple h (sym (simple.same (entries_of one.allow) u queue) ∙ f)
@@ -669,8 +669,8 @@ module _ (kind : MessageKind) (one other : Rules) where
             (sym (judges t asked sample.question sample.asked_with) ∙ p.3)
 
         by_denial : denied kind other u queue ≡ true → ⊥
-        by_denial yes =
-            let found = found_in (has u queue) (own kind any other) yes in
+        by_denial holds =
+            let found = found_in (has u queue) (own kind any other) holds in
             let o = of_views (Whole kind) found.0 other.deny found.1 in
             let kept = in_kept (is_parted false (own kind any one)) found.0 (own kind any other) found.1 (to_not (is_had (own kind any one) found.0) (not_own u queue question with_queue undenied found.0 found.2)) in
             let there = denial_place found.0 kept in
@@ -775,8 +775,8 @@ module _ (kind : MessageKind) (one other : Rules) where
 
       -- no question is allowed by the one lists and refused by the other
       pub exact : (u : List Token) (queue : Queue) → is_question kind u ≡ true → IsAskedWith (has_queue kind) queue → (allows kind one u queue && not (allows kind other u queue)) ≡ false
-      exact u queue question with_queue = by_not (allows kind one u queue && not (allows kind other u queue)) (λ yes.
-          let parts = and_parts (allows kind one u queue) (not (allows kind other u queue)) yes in
+      exact u queue question with_queue = by_not (allows kind one u queue && not (allows kind other u queue)) (λ holds.
+          let parts = and_parts (allows kind one u queue) (not (allows kind other u queue)) holds in
           let allowing = and_parts (not (denied kind one u queue)) (permitted kind one u queue) parts.0 in
           let undenied = from_not (denied kind one u queue) allowing.0 in
           refused u queue question with_queue undenied (allowed u queue question with_queue undenied allowing.1) (from_not (allows kind other u queue) parts.1))

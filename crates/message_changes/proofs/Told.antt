@@ -49,8 +49,8 @@ module _ (es : List Entry) (plain : list_any has_part es ≡ false) (u q : List 
   none_around : list_any (has_subject u) (views QueuedSubjects any es) ≡ false
   none_around =
       any_kept (view_in QueuedSubjects any) (has_subject u) (takes QueuedSubjects) es
-      ∙ by_not (list_any (λ (e : Entry). is_queued e && covers e.subject u) es) (λ yes.
-        let found = found_in (λ (e : Entry). is_queued e && covers e.subject u) es yes in
+      ∙ by_not (list_any (λ (e : Entry). is_queued e && covers e.subject u) es) (λ holds.
+        let found = found_in (λ (e : Entry). is_queued e && covers e.subject u) es holds in
         both (is_queued found.0) (and_parts (is_queued found.0) (covers found.0.subject u) found.2).0 (no_part found.0 found.1))
 
   queue_same : by_queue es u (Some q) ≡ by_whole Subscribe es u None

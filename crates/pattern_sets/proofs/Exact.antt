@@ -3,17 +3,17 @@ use Rattle.std.proofs.Common.{◌≡◌, ◌∙◌, ◌<◌, ◌≤◌, ◌⊎�
 use Rattle.std.proofs.lemmas.Bool.Decides.{nat_tests}
 use Rattle.std.proofs.lemmas.List.{get_or-map, get_or_append_left, get_or_push, length-map}
 use Rattle.std.proofs.lemmas.List.Folds.{list_any-append, list_any_at}
-use Rattle.std.specs.Prelude.{nat_le, is_none}
+use Rattle.std.specs.Prelude.{nat_le, is_some}
 use Rattle.std.specs.Option.{option_map}
 use Rattle.std.specs.List.{list_all, list_any, slice_index_or}
 use Rattle.std.proofs.lemmas.Bool.{and_parts, cases_lt}
-use Rattle.subjects.specs.Subject.{Token, covers, in_set, is_concrete, is_literal, is_star, is_tail, is_subject, is_token, is_wildcard, same_token, tokens_of, text_of, IsPattern, IsSubject}
+use Rattle.subjects.specs.Subject.{Token, covers, in_set, is_concrete, is_literal, is_star, is_tail, is_subject, is_token, is_wildcard, same_token, tokens_of, IsSubject}
 use Rattle.subjects.proofs.Grammar.{pattern_from_subject}
 use Rattle.subjects.proofs.Text.{pattern_again}
-use Rattle.pattern_sets.specs.Asking.{common, AllAlike, AreAlike, IsAlikeIf, IsExact, IsFirst, IsFoundAt, IsQueue, Judging}
-use Rattle.pattern_sets.specs.Judging.{is_between, is_member, HasNone, IsDifference}
+use Rattle.pattern_sets.specs.Asking.{common, AllAlike, IsAlikeIf, IsExact, IsFirst, IsQueue, Judging}
+use Rattle.pattern_sets.specs.Judging.{is_between, HasNone, IsDifference}
 use Rattle.pattern_sets.specs.Laws.{has_tail, has_token, sample_of, StandsFor}
-use Rattle.pattern_sets.specs.Longest.{longest, most_tokens}
+use Rattle.pattern_sets.specs.Longest.{longest}
 use Rattle.pattern_sets.specs.Samples.{part, tail}
 use Rattle.pattern_sets.specs.Sets.{IsSearch}
 use Rattle.pattern_sets.specs.declared.search.Allowing.{Allowing}
@@ -309,7 +309,7 @@ module _ {P : Type 0} (of : P → List Token) (patterns less others others_less 
         list_any (λ p. in_set (of p) s) less ≡ false → i < length patterns → in_set (of (get_or patterns i d)) s ≡ true → j < length search.refusing.items →
         covers (slice_index_or search.refusing.items j r).subject.now s ≡ true →
         ((u : List Token) → IsSubject u → StandsFor search.token.now (slice_index_or search.allowing.items i a).reason.subject.now (slice_index_or search.refusing.items j r).subject.now s u →
-            (list_any (λ p. in_set (of p) u) others ≡ false) ⊎ (list_any (λ p. in_set (of p) u) others_less ≡ true)) → ⊥
+        (list_any (λ p. in_set (of p) u) others ≡ false) ⊎ (list_any (λ p. in_set (of p) u) others_less ≡ true)) → ⊥
     short_by s n i j a r d h long alike none inside first jr second refuse =
         let same = same_at (λ (q : Allowing). q.reason.subject.now) of search.allowing.items patterns is.allowing i inside a d in
         let ia : i < length search.allowing.items = let all = allowing_long search is in omega (arith, inside, all) in
@@ -318,12 +318,12 @@ module _ {P : Type 0} (of : P → List Token) (patterns less others others_less 
         let u = asked.0 in
         let hu = asked.1.subject h in
         let some = patterns_at u _ i d hu inside same asked.1.first in
-        let yes = differs_too search.token.now _ _ s u h asked.1 (free_of search is).1 none some (refuse u hu asked.1) in
-        no_both (is_subject u && between u) (two (is_subject u) (between u) hu yes) (sym (judged u None) ∙ asked.2)
+        let holds = differs_too search.token.now _ _ s u h asked.1 (free_of search is).1 none some (refuse u hu asked.1) in
+        no_both (is_subject u && between u) (two (is_subject u) (between u) hu holds) (sym (judged u None) ∙ asked.2)
 
     short : (s : List Token) (n : ℕ) → IsSubject s → length s ≡ n + 1 → AllAlike differs search false (n + 1) → between s ≡ true → ⊥
-    short s n h long alike yes =
-        let parts = between_parts (list_any (λ p. in_set (of p) s) patterns) (list_any (λ p. in_set (of p) s) less) (list_any (λ p. in_set (of p) s) others) (list_any (λ p. in_set (of p) s) others_less) yes in
+    short s n h long alike holds =
+        let parts = between_parts (list_any (λ p. in_set (of p) s) patterns) (list_any (λ p. in_set (of p) s) less) (list_any (λ p. in_set (of p) s) others) (list_any (λ p. in_set (of p) s) others_less) holds in
         let one = found (λ p. in_set (of p) s) patterns parts.0 in
         by_place one.place one.inside one.passes parts.1 parts.2
       where
@@ -364,13 +364,13 @@ module _ {P : Type 0} (of : P → List Token) (patterns less others others_less 
     pub exact : (longest_is : ℕ) → longest (map of patterns) ≤ longest_is → longest (map of less) ≤ longest_is → longest (map of others) ≤ longest_is → longest (map of others_less) ≤ longest_is →
         search.most ≡ min (longest_is + 1) 512 → ((n : ℕ) → n < search.most → AllAlike differs search false (n + 1)) →
         (s : List Token) → IsSubject s → between s ≡ false
-    exact m a b c d most alike s h = by_not (between s) (λ yes. by_length (cases_lt search.most (length s)) yes)
+    exact m a b c d most alike s h = by_not (between s) (λ holds. by_length (cases_lt search.most (length s)) holds)
       where
         by_length : (search.most < length s) ⊎ (length s ≤ search.most) → between s ≡ true → ⊥
-        by_length (inr few) yes =
+        by_length (inr few) holds =
             let some = (concrete s h).some in
-            short s (length s - 1) h (omega (arith, some)) (alike (length s - 1) (omega (arith, some, few))) yes
-        by_length (inl more) yes =
+            short s (length s - 1) h (omega (arith, some)) (alike (length s - 1) (omega (arith, some, few))) holds
+        by_length (inl more) holds =
             let known = concrete s h in
             let bound = known.few in
             let is_more : search.most ≡ m + 1 = omega (arith, most, more, bound) in
@@ -383,13 +383,13 @@ module _ {P : Type 0} (of : P → List Token) (patterns less others others_less 
             (same_beyond of u s less (m + 1) (omega (arith, b)) inside refl known.each each)
             (same_beyond of u s others (m + 1) (omega (arith, c)) inside refl known.each each)
             (same_beyond of u s others_less (m + 1) (omega (arith, d)) inside refl known.each each) in
-            short u m hu (length_front (m + 1) s inside) (alike m (omega (arith, is_more))) (same ∙ yes)
+            short u m hu (length_front (m + 1) s inside) (alike m (omega (arith, is_more))) (same ∙ holds)
 
     -- and none with fewer tokens than what is found
     fewest : (before : ℕ) → ((n : ℕ) → n < before → AllAlike differs search false (n + 1)) → (s : List Token) → IsSubject s → length s ≤ before → between s ≡ false
     fewest before alike s h few =
         let some = (concrete s h).some in
-        by_not (between s) (λ yes. short s (length s - 1) h (omega (arith, some)) (alike (length s - 1) (omega (arith, some, few))) yes)
+        by_not (between s) (λ holds. short s (length s - 1) h (omega (arith, some)) (alike (length s - 1) (omega (arith, some, few))) holds)
 
     nothing : ((n : ℕ) → n < search.most → AllAlike differs search false (n + 1)) → IsDifference of patterns less others others_less None
     nothing alike =
@@ -428,7 +428,9 @@ one_more of patterns any all e =
     omega (arith, long, length-map all (λ (r : Reason). r.subject.now), length-append (map of patterns) (any ∷ []), length-map patterns of)
 
 -- whether the other set has every subject, by what a search found
-pub has_none : {P A : Type 0} (of : P → List Token) (patterns less others others_less : List P) (found : Option A) (items : A → List ℕ) (b : Bool) → b ≡ is_none found →
+pub has_none : {P A : Type 0} (of : P → List Token) (patterns less others others_less : List P) (found : Option A) (items : A → List ℕ) (b : Bool) → is_some found ≡ not b →
     IsDifference of patterns less others others_less (option_map items found) → HasNone of patterns less others others_less b
-has_none of patterns less others others_less None items b e h = subst (HasNone of patterns less others others_less) (sym e) h
-has_none of patterns less others others_less (Some text) items b e h = subst (HasNone of patterns less others others_less) (sym e) (tokens_of (items text), h.0, h.1)
+has_none of patterns less others others_less None items true e h = h
+has_none of patterns less others others_less None items false e h = absurd (cc)
+has_none of patterns less others others_less (Some text) items true e h = absurd (cc)
+has_none of patterns less others others_less (Some text) items false e h = (tokens_of (items text), h.0, h.1)

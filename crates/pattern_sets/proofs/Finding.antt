@@ -3,7 +3,7 @@ use Rattle.std.proofs.Common.{◌≡◌, ◌∙◌, ◌<◌, ◌+◌, ℕ, Bool,
 use Rattle.std.specs.Prelude.{is_some, IfSome}
 use Rattle.std.specs.Option.{option_map}
 use Rattle.subjects.specs.Subject.{Token, is_token, tokens_of}
-use Rattle.pattern_sets.specs.Asking.{AllAlike, IsExact, IsFirst, IsFoundAt, Judging}
+use Rattle.pattern_sets.specs.Asking.{AllAlike, IsExact, IsFoundAt, Judging}
 use Rattle.pattern_sets.specs.Judging.{IsFound}
 use Rattle.pattern_sets.specs.declared.search.Asked.{Asked}
 use Rattle.pattern_sets.specs.declared.search.Search.{Search}

@@ -1,8 +1,9 @@
 -- A token that is longer than each pattern is none of theirs.
-use Rattle.std.proofs.Common.{◌≡◌, ◌∙◌, ◌<◌, ◌≤◌, ◌+◌, ◌++◌, ◌||◌, ◌&&◌, ℕ, zero, suc, Bool, true, false, not, List, [], ◌∷◌, length, map, replicate, max, nat_eq, ap, refl, sym, subst, arith, length-append, length-replicate}
+use Rattle.std.proofs.Common.{◌≡◌, ◌∙◌, ◌<◌, ◌+◌, ◌||◌, ℕ, zero, suc, Bool, true, false, List, [], ◌∷◌, length, map, replicate, nat_eq, ap, refl, arith, length-append}
+use Rattle.std.proofs.lemmas.List.{length-replicate}
 use Rattle.std.specs.List.{list_all, list_any}
 use Rattle.std.specs.Cmp.Lexicographic.{as_long}
-use Rattle.subjects.specs.Subject.{Token, is_literal, is_token_byte, is_token, same_token, text_of}
+use Rattle.subjects.specs.Subject.{Token, is_literal, is_token_byte, same_token, text_of}
 use Rattle.pattern_sets.specs.Laws.{has_token}
 use Rattle.pattern_sets.specs.Longest.{longest_text}
 

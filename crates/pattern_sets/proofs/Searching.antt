@@ -1,6 +1,5 @@
 -- The steps of a search, from a queue to all reasons.
-use Rattle.std.proofs.Common.{◌≡◌, ◌∙◌, ◌<◌, ◌≤◌, ◌+◌, ℕ, zero, suc, Bool, true, false, not, ◌&&◌, if◌then◌else◌, List, [], ◌∷◌, length, take, map, get_or, Option, Some, None, ap, refl, sym, subst, arith, get_or-take, length-take}
-use Rattle.std.specs.Prelude.{is_some}
+use Rattle.std.proofs.Common.{◌≡◌, ◌∙◌, ◌<◌, ℕ, zero, suc, Bool, true, false, ◌&&◌, if◌then◌else◌, List, [], ◌∷◌, length, take, map, get_or, Option, Some, None, ap, refl, sym, subst, arith, get_or-take, length-take}
 use Rattle.std.specs.List.{list_all, slice_index_or}
 use Rattle.std.specs.Option.{option_map}
 use Rattle.std.proofs.lemmas.Bool.{and_parts}
@@ -9,7 +8,7 @@ use Rattle.subjects.specs.Subject.{Token, IsPattern, IsSubject, is_star, is_tail
 use Rattle.subjects.specs.Fault.{subject_fault, subject_if}
 use Rattle.subjects.proofs.Grammar.{no_fault_from_subject}
 use Rattle.subjects.proofs.Text.{again, tokens_again}
-use Rattle.pattern_sets.specs.Asking.{common, part_view, reason_part, subject_by, AreAlike, AreAlikeParts, AreQueuesAlike, IsAlike, IsAlikeIf, IsAlikePart, IsAlikeWithin, IsQueue, IsQueueAlike, Judging}
+use Rattle.pattern_sets.specs.Asking.{common, part_view, reason_part, subject_by, AreAlike, AreAlikeParts, AreQueuesAlike, IsAlike, IsAlikeIf, IsAlikePart, IsAlikeWithin, IsQueueAlike, Judging}
 use Rattle.pattern_sets.specs.Laws.{sample_of}
 use Rattle.pattern_sets.specs.Samples.{agree, either, either_each, filled, meet, part, sample}
 use Rattle.pattern_sets.specs.declared.part.Part.{Part}
@@ -228,8 +227,10 @@ module _ (differs : Judging) (search : Search) (has_tail : Bool) (n : ℕ) (one 
   pub without_part : (p : Option Part) → p ≡ None → option_map part_view p ≡ reason_part has_tail n one.reason → IsAlikeWithin differs search has_tail n one
   without_part p none is =
       let nothing : None ≡ reason_part has_tail n one.reason = sym (ap (option_map part_view) none) ∙ is in
-      record { each = λ j r less reach. no_part differs search (part has_tail n one.reason.subject.now) (part has_tail n (slice_index_or search.refusing.items j r).subject.now) one.reason.queue.now (slice_index_or search.refusing.items j r).queue.now
-        (no_view (part has_tail n one.reason.subject.now) one.reason.queue.now nothing) }
+      record {
+        each = λ j r less reach. no_part differs search (part has_tail n one.reason.subject.now) (part has_tail n (slice_index_or search.refusing.items j r).subject.now) one.reason.queue.now (slice_index_or search.refusing.items j r).queue.now
+            (no_view (part has_tail n one.reason.subject.now) one.reason.queue.now nothing);
+      }
 
   pub with_part : map (option_map part_view) parts ≡ map (reason_part has_tail n) search.refusing.items → (p : Option Part) (own : Part) → p ≡ Some own →
       option_map part_view p ≡ reason_part has_tail n one.reason → AreAlikeParts differs search (part_view own) (take one.reach parts) → IsAlikeWithin differs search has_tail n one

@@ -403,7 +403,11 @@ fn queue_by(alloc: Global, text: Option<Vec<u8>>) -> Result<Option<Subject>, NoM
 fn front_of<'a, 'b>(parts: &'b [Option<Part<'a>>], count: usize) -> &'b [Option<Part<'a>>]
     ensures { result.now ≡ take count parts.now }
 {
-    if count < parts.len() { &parts[..count] } else { parts }
+    if count < parts.len() {
+        &parts[..count]
+    } else {
+        parts
+    }
 }
 
 /// Returns the part of each reason that has this length, if it has one.

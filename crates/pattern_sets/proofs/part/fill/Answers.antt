@@ -1,4 +1,4 @@
-use Rattle.std.proofs.Common.{◌≡◌, ◌∙◌, ap, map, sym, List, ℕ, Bor}
+use Rattle.std.proofs.Common.{◌∙◌, ap, map, sym, List, ℕ, Bor}
 use Rattle.std.proofs.lemmas.List.{map_push}
 use Rattle.pattern_sets.proofs.Parts.{filled_more}
 use Rattle.pattern_sets.proofs.part.fill.Goals as goal

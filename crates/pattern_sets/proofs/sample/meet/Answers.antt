@@ -1,4 +1,4 @@
-use Rattle.std.proofs.Common.{◌≡◌, ◌∙◌, ◌<◌, sym, arith, length, List, ℕ, Bor}
+use Rattle.std.proofs.Common.{◌∙◌, ◌<◌, sym, arith, length, List, ℕ, Bor}
 use Rattle.pattern_sets.proofs.Texts.{meet_ended, meet_kept}
 use Rattle.pattern_sets.proofs.sample.meet.Goals as goal
 

@@ -2,6 +2,7 @@ use Rattle.std.proofs.Common.{◌∙◌, ◌++◌, ◌∷◌, [], ap, map, sym, 
 use Rattle.std.specs.Option.{option_map}
 use Rattle.std.proofs.lemmas.List.{map_more, map_push}
 use Rattle.pattern_sets.specs.Asking.{part_view, reason_part}
+use Rattle.pattern_sets.specs.declared.search.Reason.{Reason}
 use Rattle.pattern_sets.proofs.search.parts_of.Goals as goal
 
 pub loop-reason-preserved : goal.loop-reason-preserved
@@ -12,4 +13,5 @@ loop-reason-preserved c =
     ap (map (option_map part_view)) c.in_ok-push.ensures.items ∙ map_push (option_map part_view) c.loop-reason.parts.items c.in_ok-part.part
     ∙ ap (λ (l : List (Option (List (List ℕ) × List (List ℕ)))). l ++ (option_map part_view c.in_ok-part.part ∷ [])) c.loop-reason.invariant
     ∙ ap (λ (o : Option (List (List ℕ) × List (List ℕ))). map (reason_part b n) (take i c.args.reasons.now) ++ (o ∷ [])) c.in_ok-part.ensures
-    ∙ sym (map_more (reason_part b n) c.args.reasons.now i _ c.loop-reason-test.true)
+    ∙ ap (λ (r : Reason). map (reason_part b n) (take i c.args.reasons.now) ++ (reason_part b n r ∷ [])) c.reason-item.is
+    ∙ sym (map_more (reason_part b n) c.args.reasons.now i c.reason-item.result c.loop-reason-test.true)

@@ -13,7 +13,7 @@ returns c =
     record {
       allowing = c.in_ok-allowing.ensures.subjects;
       reach =
-      each_reach c.args.sets.0.patterns.now c.in_ok-allowing.allowing.items (length less + 1) (length c.in_ok-refusing.refusing.items) c.in_ok-allowing.ensures.reach (omega (arith, many));
+          each_reach c.args.sets.0.patterns.now c.in_ok-allowing.allowing.items (length less + 1) (length c.in_ok-refusing.refusing.items) c.in_ok-allowing.ensures.reach (omega (arith, many));
       refusing = c.in_ok-refusing.ensures ∙ ap (λ (a : List (List ℕ)). map of less ++ (a ∷ [])) c.requires.any;
       queue = refl;
       most = c.most_tokens-most.ensures ∙ ap (λ (l : List (Bor (List (List ℕ)))). most_tokens (map of l)) c.requires.whole;

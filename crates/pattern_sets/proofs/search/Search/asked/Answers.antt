@@ -1,4 +1,3 @@
-use Rattle.std.proofs.Common.{◌∙◌, sym, None}
 use Rattle.subjects.specs.Subject.{tokens_of}
 use Rattle.pattern_sets.proofs.Finding.{with_none, with_some}
 use Rattle.pattern_sets.proofs.Searching.{with_queues, without_queue}

@@ -1,4 +1,4 @@
-use Rattle.std.proofs.Common.{◌∙◌, ap, sym, arith, below_more, length, map}
+use Rattle.std.proofs.Common.{◌∙◌, ap, sym, arith, below_more, length, map, subst}
 use Rattle.std.specs.List.{slice_index_or}
 use Rattle.std.specs.Option.{option_map}
 use Rattle.pattern_sets.specs.Asking.{part_view, reason_part, IsAlikeWithin}
@@ -16,11 +16,11 @@ loop-one-preserved g c =
     let differs = g.J.Judges.differs c.args.judges.now in
     let none = sym c.is_some.ensures ∙ c.if-is_some.false in
     λ i a less.
-      below_more (λ k. (b : Allowing) → IsAlikeWithin differs c.args.self.now c.args.length.has_tail c.args.length.tokens (slice_index_or c.args.self.now.allowing.items k b))
-      c.loop-one.one-index (λ k l b. c.loop-one.invariant k b l)
-      (λ b. at_any (IsAlikeWithin differs c.args.self.now c.args.length.has_tail c.args.length.tokens) c.as_slice-allowing.result.now c.args.self.now.allowing.items c.loop-one.one-index _ b c.as_slice-allowing.ensures.value
-        c.loop-one-test.true (c.in_ok-found.ensures.alike none))
-      i less a
+    below_more (λ k. (b : Allowing) → IsAlikeWithin differs c.args.self.now c.args.length.has_tail c.args.length.tokens (slice_index_or c.args.self.now.allowing.items k b))
+    c.loop-one.one-index (λ k l b. c.loop-one.invariant k b l)
+    (λ b. at_any (IsAlikeWithin differs c.args.self.now c.args.length.has_tail c.args.length.tokens) c.as_slice-allowing.result.now c.args.self.now.allowing.items c.loop-one.one-index c.one-item.result b
+    c.as_slice-allowing.ensures.value c.loop-one-test.true (subst (IsAlikeWithin differs c.args.self.now c.args.length.has_tail c.args.length.tokens) c.one-item.is (c.in_ok-found.ensures.alike none)))
+    i less a
 
 pub returns-then-is_some-clause-alike : goal.returns-then-is_some-clause-alike
 returns-then-is_some-clause-alike g c = λ none. absurd (both _ (sym c.is_some.ensures ∙ c.if-is_some.true) none)

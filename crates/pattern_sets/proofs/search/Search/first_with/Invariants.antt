@@ -3,7 +3,7 @@ use Rattle.std.proofs.Common.{ℕ, ◌<◌, Option}
 use Rattle.std.specs.List.{slice_index_or}
 use Rattle.std.specs.Option.{option_map}
 use Rattle.pattern_sets.specs.Asking.{part_view, IsAlikePart}
-use Rattle.pattern_sets.specs.declared.search.Part.{Part}
+use Rattle.pattern_sets.specs.declared.part.Part.{Part}
 use Rattle.pattern_sets.proofs.search.Search.first_with.Given as goal
 
 abbrev pub invariant-loop-other : goal.invariant-loop-other

@@ -1,5 +1,4 @@
-use Rattle.std.proofs.Common.{◌∙◌, ap, false, map, List, ℕ, Bor}
-use Rattle.std.specs.Option.{option_map}
+use Rattle.std.proofs.Common.{◌∙◌, ap, false}
 use Rattle.pattern_sets.specs.Asking.{subject_by}
 use Rattle.pattern_sets.proofs.Searching.{text_by}
 use Rattle.pattern_sets.proofs.search.Search.queue_of.Goals as goal

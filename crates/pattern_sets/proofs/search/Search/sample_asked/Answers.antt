@@ -1,4 +1,4 @@
-use Rattle.std.proofs.Common.{◌≡◌, ◌∙◌, ap, refl, sym, subst, length, map, List, ℕ, Bor, Some}
+use Rattle.std.proofs.Common.{◌≡◌, ◌∙◌, ap, sym, subst, length, map, List, ℕ, Bor, Some}
 use Rattle.std.specs.Option.{option_map}
 use Rattle.subjects.specs.Subject.{text_of}
 use Rattle.pattern_sets.specs.Asking.{part_view, IsAlike}
@@ -31,4 +31,4 @@ returns-in_ok-queue-in-Some-clause-alike g c = λ none.
     one_sample_of differs c.args.self.now (part_view c.args.one.now) (part_view c.args.other.now) (map of c.as_slice-some.result.now) (map of c.as_slice-others.result.now) c.in-Some.text.items
     (ap (map of) c.as_slice-some.ensures.value) (ap (map of) c.as_slice-others.ensures.value) (ap (option_map (λ t. t.items)) (sym c.in-Some.is) ∙ c.in_ok-sample.ensures)
     (subst (λ (t : List ℕ). IsAlike differs c.args.self.now.token.now c.args.self.now.most_of_queues c.args.one.now.queue.now c.args.other.now.queue.now t) c.as_slice-bytes.ensures.value
-      (c.in_ok-queue-in-Some.ensures.alike (sym c.question_of-found.ensures.none ∙ none)))
+    (c.in_ok-queue-in-Some.ensures.alike (sym c.question_of-found.ensures.none ∙ none)))
