@@ -519,8 +519,8 @@ module _ (kind : MessageKind) (one other : Rules) where
 
       any_member : has_list kind one ≡ false → IsIn ((any, any), reach_of kind any one other (any, any) false) (reasons kind any one other)
       any_member h =
-          subst (λ (c : Bool). IsIn ((any, any), reach_of kind any one other (any, any) false) (if c then reasons_by_entries kind any one other (entries_of one.allow) else reasons_without kind any one other)) (sym h)
-          (subst (λ (c : Bool). IsIn ((any, any), reach_of kind any one other (any, any) false) (if c then [] else ((any, any), reach_of kind any one other (any, any) false) ∷ [])) (sym (not_own (any, any) had_any))
+          subst (λ (c : Bool). IsIn {A = View × ℕ} ((any, any), reach_of kind any one other (any, any) false) (if c then reasons_by_entries kind any one other (entries_of one.allow) else reasons_without kind any one other)) (sym h)
+          (subst (λ (c : Bool). IsIn {A = View × ℕ} ((any, any), reach_of kind any one other (any, any) false) (if c then [] else ((any, any), reach_of kind any one other (any, any) false) ∷ [])) (sym (not_own (any, any) had_any))
             record { place = 0; inside = omega arith; is = λ d. refl })
 
       allowed_without : has_list kind one ≡ false → IsAllowedBy u queue

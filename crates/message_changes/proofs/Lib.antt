@@ -1,6 +1,7 @@
 pub mod Covered
 pub mod Exact
 pub mod Members
+pub mod Parts
 pub mod Questions
 pub mod Sampled
 pub mod Told

@@ -61,12 +61,12 @@ module _ {A : Type 0} where
   none_more p q xs law none = by_not (list_any p xs) (λ e. let one = found_in p xs e in both (list_any q xs) (any_in q one.0 xs one.1 (law one.0 one.1 one.2)) none)
 
   -- what is in the first of two lists has the same place in both
-  left_at : (x : A) (ys zs : List A) (i : ℕ) → i < length zs → ((d : A) → get_or zs i d ≡ x) → (d : A) → get_or (zs ++ ys) i d ≡ x
+  pub left_at : (x : A) (ys zs : List A) (i : ℕ) → i < length zs → ((d : A) → get_or zs i d ≡ x) → (d : A) → get_or (zs ++ ys) i d ≡ x
   left_at x ys [] i less is d = absurd (omega (arith, less))
   left_at x ys (z ∷ zs) zero less is d = is d
   left_at x ys (z ∷ zs) (suc i) less is d = left_at x ys zs i (omega (arith, less)) is d
 
-  pub in_left : (x : A) (xs ys : List A) → IsIn x xs → IsIn x (xs ++ ys)
+  abbrev pub in_left : (x : A) (xs ys : List A) → IsIn x xs → IsIn x (xs ++ ys)
   in_left x xs ys h =
       let less = h.inside in
       let long = length-append xs ys in

@@ -1,5 +1,5 @@
 //! The reasons by which lists refuse what others allow, in the order in which they are asked.
-ghost use Rattle.std.specs.Prelude.{◌≡◌, ◌++◌, ◌∷◌, [], cond, map, IfOk, OnOk};
+ghost use Rattle.std.specs.Prelude.{◌≡◌, ◌++◌, ◌∷◌, [], cond, false, map, IfOk, OnOk};
 ghost use Rattle.std.specs.List.{filter};
 ghost use Rattle.std.specs.Option.{option_copied};
 ghost use Rattle.message_changes.specs.Reasons.{denials, first_of, is_parted, late, own, queued_of, reason_view, rules_by, second_of, views, with_any, IsRefusing};
@@ -34,7 +34,7 @@ pub(crate) struct Refusing<'a> {
 }
 
 impl<'a> Refusing<'a> {
-    ghost use Rattle.std.specs.Prelude.{◌≡◌, List};
+    ghost use Rattle.std.specs.Prelude.{◌≡◌, false, true, List};
     ghost use Rattle.subjects.specs.Subject.{Token};
     ghost use Rattle.permissions.specs.Lists.{Rules};
     ghost use Rattle.message_changes.specs.Reasons.{reach_of, reason_view, IsRefusing};
