@@ -1,12 +1,12 @@
 -- Whether some reasons have all of another, as their patterns say.
-use Rattle.std.proofs.Common.{◌≡◌, ◌∙◌, ◌<◌, ◌&&◌, ℕ, Bool, true, false, List, [], ◌∷◌, length, map, get_or, ap, refl, sym, arith}
-use Rattle.std.specs.List.{list_any, slice_index_or}
+use Rattle.std.proofs.Common.{◌≡◌, ◌∙◌, Bool, true, false, List, map, ap, sym}
+use Rattle.std.specs.List.{list_any}
 use Rattle.std.proofs.lemmas.List.Folds.{list_any_at, list_any_none}
 use Rattle.std.proofs.lemmas.List.{get_or_default}
 use Rattle.pattern_sets.specs.Judging.{is_within, IsCovered}
 use Rattle.pattern_sets.specs.declared.search.Reason.{Reason}
 use Rattle.message_changes.proofs.Members.{any_map}
-use Rattle.message_changes.specs.Reasons.{is_had, is_inside, reason_view, View}
+use Rattle.message_changes.specs.Reasons.{is_had, is_inside, reason_view}
 
 by_result : (reasons : List Reason) (reason : Reason) (b : Bool) → IsCovered reasons reason b → b ≡ list_any (λ (r : Reason). is_within reason r) reasons
 by_result reasons reason true h = sym (list_any_at (λ (r : Reason). is_within reason r) reasons h.0 reason h.1 h.2)

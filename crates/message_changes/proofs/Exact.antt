@@ -1,30 +1,27 @@
 -- Where no sample is judged otherwise, no question of the kind is.
-use Rattle.std.proofs.Common.{◌≡◌, ◌∙◌, ◌<◌, ◌≤◌, ◌+◌, ◌++◌, ◌⊎◌, inl, inr, ◌&&◌, ◌||◌, ℕ, zero, suc, Bool, true, false, not, if◌then◌else◌, List, [], ◌∷◌, length, map, get_or, min, Option, Some, None, ap, refl, sym, subst, arith, length-append}
+use Rattle.std.proofs.Common.{◌≡◌, ◌∙◌, ◌<◌, ◌≤◌, ◌+◌, ◌++◌, ◌⊎◌, inl, inr, ◌&&◌, ◌||◌, ℕ, zero, suc, Bool, true, false, not, if◌then◌else◌, List, [], ◌∷◌, length, map, get_or, Option, Some, None, ap, refl, sym, subst, arith, length-append}
 use Rattle.std.specs.Prelude.{is_some}
 use Rattle.std.specs.List.{filter, list_any, slice_index_or}
 use Rattle.std.proofs.lemmas.Bool.{and_parts}
 use Rattle.std.proofs.lemmas.List.{get_or-map, get_or_at, length-map}
-use Rattle.std.proofs.lemmas.List.Folds.{list_any-append}
-use Rattle.subjects.specs.Subject.{Token, covers, is_literal, is_pattern, is_subject, is_tail, same_token, IsPattern, IsSubject, text_of, tokens_of}
+use Rattle.subjects.specs.Subject.{Token, covers, is_literal, same_token, IsPattern, IsSubject}
 use Rattle.subjects.proofs.Grammar.{pattern_from_subject}
-use Rattle.subjects.proofs.Same.{equal_from_same, same_token-itself}
+use Rattle.subjects.proofs.Same.{equal_from_same}
 use Rattle.subjects.proofs.Text.{pattern_again}
 use Rattle.permissions.specs.Lists.{Entry, Lists, Queue, Rules, is_plain, is_queued}
 use Rattle.pattern_sets.proofs.Exact.{concrete}
 use Rattle.pattern_sets.proofs.Searching.{item_of}
-use Rattle.pattern_sets.specs.Asking.{common, AllAlike, IsAlikeIf, IsExact, IsQueue, Judging}
+use Rattle.pattern_sets.specs.Asking.{common, AllAlike, IsAlikeIf, IsExact, Judging}
 use Rattle.pattern_sets.specs.Laws.{has_token}
-use Rattle.pattern_sets.specs.Longest.{longest, most_tokens}
-use Rattle.pattern_sets.specs.declared.search.Allowing.{Allowing}
+use Rattle.pattern_sets.specs.Longest.{longest}
 use Rattle.pattern_sets.specs.declared.search.Asked.{Asked}
-use Rattle.pattern_sets.specs.declared.search.Reason.{Reason}
 use Rattle.pattern_sets.specs.declared.search.Search.{Search}
 use Rattle.message_changes.proofs.Members.{any_in, both, by_not, found_in, from_kept, from_map, in_kept, in_left, in_map, in_right, longest_in, none_in, none_more, two, IsIn}
-use Rattle.message_changes.proofs.Sampled.{covers_through, queue_sample, subject_sample, IsKnown, IsQueueSample, IsSubjectSample}
+use Rattle.message_changes.proofs.Sampled.{covers_through, queue_sample, subject_sample, IsKnown}
 use Rattle.message_changes.proofs.Verdicts.{allows, any, any_covers, by_list, by_queue, by_whole, denied, differs_is, has, has_subject, no_queue, permitted, plain_covers, queue_has, subject_same}
 use Rattle.message_changes.specs.Exact.{AreAllAlike, IsAskedWith}
 use Rattle.message_changes.specs.Judging.{differs, is_question}
-use Rattle.message_changes.specs.Reasons.{all_entries, allowing_view, denials, entries_of, fresh, has_allow, has_list, has_queue, has_tails, is_for_queues, is_had, is_inside, is_parted, is_reason, late, listed, looks_at, most_in_queues, own, part_or, parts_of, plain_reach, queue_in, queued_of, reach_of, reason_of, reason_view, reasons, reasons_by_entries, reasons_without, refusals, rules_of, subject_of, takes, view_in, views, with_any, with_part, IsSearch, View}
+use Rattle.message_changes.specs.Reasons.{all_entries, allowing_view, denials, entries_of, fresh, has_allow, has_list, has_queue, has_tails, is_for_queues, is_had, is_inside, is_parted, is_reason, late, listed, looks_at, own, part_or, parts_of, queue_in, queued_of, reach_of, reason_of, reason_view, reasons, reasons_by_entries, reasons_without, refusals, rules_of, subject_of, takes, view_in, views, with_any, with_part, IsSearch, View}
 use Rattle.message_changes.specs.declared.form.Form.{Form}
 use Rattle.message_changes.specs.declared.form.Form.TheVariants.{Whole, Subjects, Queued, QueuedSubjects}
 use Rattle.message_changes.specs.declared.kind.MessageKind.{MessageKind}
@@ -410,8 +407,8 @@ module _ (kind : MessageKind) (one other : Rules) where
       views_back form es known none =
           none_more (has t asked) (has u queue) (views form any es)
           (λ x h c.
-            let o = of_views form x es h in
-            subst (λ (y : View). has u queue y ≡ true) o.is (entry_back form o.entry (known o.entry o.inside) (subst (λ (y : View). has t asked y ≡ true) (sym o.is) c)))
+          let o = of_views form x es h in
+          subst (λ (y : View). has u queue y ≡ true) o.is (entry_back form o.entry (known o.entry o.inside) (subst (λ (y : View). has t asked y ≡ true) (sym o.is) c)))
           none
 
       subjects_back : (es : List Entry) → ((e : Entry) → IsIn e es → IsIn e (all_entries one other)) → list_any (has_subject u) (views QueuedSubjects any es) ≡ false →
@@ -419,8 +416,8 @@ module _ (kind : MessageKind) (one other : Rules) where
       subjects_back es known none =
           none_more (has_subject t) (has_subject u) (views QueuedSubjects any es)
           (λ x h c.
-            let o = of_views QueuedSubjects x es h in
-            subst (λ (y : View). covers y.0 u ≡ true) o.is (subject_back o.entry (known o.entry o.inside) (subst (λ (y : View). covers y.0 t ≡ true) (sym o.is) c)))
+          let o = of_views QueuedSubjects x es h in
+          subst (λ (y : View). covers y.0 u ≡ true) o.is (subject_back o.entry (known o.entry o.inside) (subst (λ (y : View). covers y.0 t ≡ true) (sym o.is) c)))
           none
 
       plain_back : (es : List Entry) → ((e : Entry) → IsIn e es → IsIn e (all_entries one other)) → list_any (plain_covers u) es ≡ false → list_any (plain_covers t) es ≡ false
@@ -476,9 +473,9 @@ module _ (kind : MessageKind) (one other : Rules) where
               let whole = last_in e in
               let less = whole.2 in
               let not_had : is_had (views Queued any (listed kind other)) v ≡ false = by_not (is_had (views Queued any (listed kind other)) v) (λ h.
-                  let one_of = found_in (has_subject u) (views Queued any (listed kind other)) (had_subject (views Queued any (listed kind other)) v u h covered) in
-                  let o = of_views Queued one_of.0 (listed kind other) one_of.1 in
-                  none o.entry o.inside (looks_all kind o.entry (all_queues refl)) (subst (λ (y : View). covers y.0 u ≡ true) (sym o.is) one_of.2)) in
+              let one_of = found_in (has_subject u) (views Queued any (listed kind other)) (had_subject (views Queued any (listed kind other)) v u h covered) in
+              let o = of_views Queued one_of.0 (listed kind other) one_of.1 in
+              none o.entry o.inside (looks_all kind o.entry (all_queues refl)) (subst (λ (y : View). covers y.0 u ≡ true) (sym o.is) one_of.2)) in
               let all = queued_all v not_had in
               let most = refusals_long in
               omega (arith, all, less, most)
@@ -486,16 +483,16 @@ module _ (kind : MessageKind) (one other : Rules) where
               let whole = last_in e in
               let less = whole.2 in
               let all = plain_last v (by_not (is_had (views (Subjects kind) any (listed kind other)) v) (λ h.
-                  let one_of = found_in (has_subject u) (views (Subjects kind) any (listed kind other)) (had_subject (views (Subjects kind) any (listed kind other)) v u h covered) in
-                  let o = of_views (Subjects kind) one_of.0 (listed kind other) one_of.1 in
-                  none o.entry o.inside o.taken (subst (λ (y : View). covers y.0 u ≡ true) (sym o.is) one_of.2))) in
+              let one_of = found_in (has_subject u) (views (Subjects kind) any (listed kind other)) (had_subject (views (Subjects kind) any (listed kind other)) v u h covered) in
+              let o = of_views (Subjects kind) one_of.0 (listed kind other) one_of.1 in
+              none o.entry o.inside o.taken (subst (λ (y : View). covers y.0 u ≡ true) (sym o.is) one_of.2))) in
               omega (arith, all, less)
 
           queued_by : (c : Bool) → (c ≡ false → list_any (has_subject u) (queued_of kind any one) ≡ false) → (w : View) → IsIn w (queued_of kind any other) → covers w.0 u ≡ true →
               list_any (has u queue) (views Queued any (listed kind other)) ≡ false → (j : IsIn w (refusals kind any one other)) × (j.place < reach_of kind any one other v c)
           queued_by true none w h over unnamed =
               let not_had : is_had (views Queued any (listed kind other)) v ≡ false = by_not (is_had (views Queued any (listed kind other)) v) (λ k.
-                  both (list_any (has u queue) (views Queued any (listed kind other))) (had_has (views Queued any (listed kind other)) v u queue k had) unnamed) in
+              both (list_any (has u queue) (views Queued any (listed kind other))) (had_has (views Queued any (listed kind other)) v u queue k had) unnamed) in
               let all = queued_all v not_had in
               let there = queued_place w h in
               let less = there.inside in
@@ -511,8 +508,8 @@ module _ (kind : MessageKind) (one other : Rules) where
       entry_member e h inside looks had =
           subst (λ (c : Bool). IsIn (reason_of kind any one other e) (if c then reasons_by_entries kind any one other (entries_of one.allow) else reasons_without kind any one other)) (sym h)
           (in_map (reason_of kind any one other) e (filter (is_reason kind any one) (entries_of one.allow))
-            (in_kept (is_reason kind any one) e (entries_of one.allow) inside
-              (two (looks_at kind e) (not (is_had (own kind any one) (view_in (Whole kind) any e))) looks (to_not (is_had (own kind any one) (view_in (Whole kind) any e)) (not_own (view_in (Whole kind) any e) had)))))
+          (in_kept (is_reason kind any one) e (entries_of one.allow) inside
+          (two (looks_at kind e) (not (is_had (own kind any one) (view_in (Whole kind) any e))) looks (to_not (is_had (own kind any one) (view_in (Whole kind) any e)) (not_own (view_in (Whole kind) any e) had)))))
 
       had_any : has u queue (any, any) ≡ true
       had_any = two (covers any u) (queue_has any queue) (any_covers u (some_tokens u (question_pattern kind u question))) (any_queue (has_queue kind) queue with_queue)
@@ -521,7 +518,7 @@ module _ (kind : MessageKind) (one other : Rules) where
       any_member h =
           subst (λ (c : Bool). IsIn {A = View × ℕ} ((any, any), reach_of kind any one other (any, any) false) (if c then reasons_by_entries kind any one other (entries_of one.allow) else reasons_without kind any one other)) (sym h)
           (subst (λ (c : Bool). IsIn {A = View × ℕ} ((any, any), reach_of kind any one other (any, any) false) (if c then [] else ((any, any), reach_of kind any one other (any, any) false) ∷ [])) (sym (not_own (any, any) had_any))
-            record { place = 0; inside = omega arith; is = λ d. refl })
+          record { place = 0; inside = omega arith; is = λ d. refl })
 
       allowed_without : has_list kind one ≡ false → IsAllowedBy u queue
       allowed_without h =
@@ -540,9 +537,9 @@ module _ (kind : MessageKind) (one other : Rules) where
           (λ f. ap (λ (c : Bool). list_any (has_subject u) (if c then views QueuedSubjects any (listed kind one) else [])) plain)
           (λ f. (and_parts (has_queue kind) (is_queued o.entry) f).0)
           (λ w t asked sample.
-            ap (λ (c : Bool). if c then by_list kind (entries_of one.allow) t asked else true) h
-            ∙ simple.same (entries_of one.allow) t asked
-            ∙ any_in (has t asked) (view_in (Whole kind) any o.entry) (views (Whole kind) any (entries_of one.allow)) (in_views (Whole kind) o.entry (entries_of one.allow) o.inside o.taken) sample.first)
+          ap (λ (c : Bool). if c then by_list kind (entries_of one.allow) t asked else true) h
+          ∙ simple.same (entries_of one.allow) t asked
+          ∙ any_in (has t asked) (view_in (Whole kind) any o.entry) (views (Whole kind) any (entries_of one.allow)) (in_views (Whole kind) o.entry (entries_of one.allow) o.inside o.taken) sample.first)
 
       -- by an entry for queues
       allowed_named : IsWithQueues kind → has_list kind one ≡ true → list_any (has u queue) (views Queued any (entries_of one.allow)) ≡ true → IsAllowedBy u queue
@@ -556,13 +553,13 @@ module _ (kind : MessageKind) (one other : Rules) where
           (λ f. absurd (both (is_for_queues kind o.entry) for_queues f))
           (λ f. q.queues)
           (λ w t asked sample.
-            ap (λ (c : Bool). if c then by_list kind (entries_of one.allow) t asked else true) h
-            ∙ q.same (entries_of one.allow) t asked
-            ∙ if_true (list_any (has_subject t) (views QueuedSubjects any (entries_of one.allow))) (list_any (has t asked) (views Queued any (entries_of one.allow))) (list_any (plain_covers t) (entries_of one.allow))
-              (any_in (has_subject t) (view_in QueuedSubjects any o.entry) (views QueuedSubjects any (entries_of one.allow)) (in_views QueuedSubjects o.entry (entries_of one.allow) o.inside o.taken)
-                (and_parts (covers o.entry.subject t) (queue_has (queue_in (Whole kind) any o.entry) asked) sample.first).0)
-              (any_in (has t asked) (view_in Queued any o.entry) (views Queued any (entries_of one.allow)) (in_views Queued o.entry (entries_of one.allow) o.inside o.taken)
-                (subst (λ (y : View). has t asked y ≡ true) same sample.first)))
+          ap (λ (c : Bool). if c then by_list kind (entries_of one.allow) t asked else true) h
+          ∙ q.same (entries_of one.allow) t asked
+          ∙ if_true (list_any (has_subject t) (views QueuedSubjects any (entries_of one.allow))) (list_any (has t asked) (views Queued any (entries_of one.allow))) (list_any (plain_covers t) (entries_of one.allow))
+          (any_in (has_subject t) (view_in QueuedSubjects any o.entry) (views QueuedSubjects any (entries_of one.allow)) (in_views QueuedSubjects o.entry (entries_of one.allow) o.inside o.taken)
+          (and_parts (covers o.entry.subject t) (queue_has (queue_in (Whole kind) any o.entry) asked) sample.first).0)
+          (any_in (has t asked) (view_in Queued any o.entry) (views Queued any (entries_of one.allow)) (in_views Queued o.entry (entries_of one.allow) o.inside o.taken)
+          (subst (λ (y : View). has t asked y ≡ true) same sample.first)))
 
       -- by a plain entry, where none for queues has its subjects
       allowed_plain : IsWithQueues kind → has_list kind one ≡ true → list_any (has_subject u) (views QueuedSubjects any (entries_of one.allow)) ≡ false → list_any (plain_covers u) (entries_of one.allow) ≡ true → IsAllowedBy u queue
@@ -575,16 +572,16 @@ module _ (kind : MessageKind) (one other : Rules) where
           let plain : is_for_queues kind found.0 ≡ false = plain_unqueued (has_queue kind) (is_queued found.0) parts.0 in
           made (view_in (Whole kind) any found.0) (is_for_queues kind found.0) (entry_member found.0 h found.1 (looks_all kind found.0 q.queues) had) (known_view (Whole kind) found.0 (in_allow found.0 found.1)) had
           (λ f.
-            ap (λ (c : Bool). list_any (has_subject u) (if c then views QueuedSubjects any (listed kind one) else [])) q.queues
-            ∙ ap (λ (c : Bool). list_any (has_subject u) (views QueuedSubjects any (if c then entries_of one.allow else []))) h ∙ none)
+          ap (λ (c : Bool). list_any (has_subject u) (if c then views QueuedSubjects any (listed kind one) else [])) q.queues
+          ∙ ap (λ (c : Bool). list_any (has_subject u) (views QueuedSubjects any (if c then entries_of one.allow else []))) h ∙ none)
           (λ f. absurd (both (is_for_queues kind found.0) f plain))
           (λ w t asked sample.
-            ap (λ (c : Bool). if c then by_list kind (entries_of one.allow) t asked else true) h
-            ∙ q.same (entries_of one.allow) t asked
-            ∙ if_false (list_any (has_subject t) (views QueuedSubjects any (entries_of one.allow))) (list_any (has t asked) (views Queued any (entries_of one.allow))) (list_any (plain_covers t) (entries_of one.allow))
-              (subjects_back u queue (view_in (Whole kind) any found.0) w t asked sample (entries_of one.allow) in_allow none)
-              (any_in (plain_covers t) found.0 (entries_of one.allow) found.1
-                (two (is_plain found.0) (covers found.0.subject t) parts.0 (and_parts (covers found.0.subject t) (queue_has (queue_in (Whole kind) any found.0) asked) sample.first).0)))
+          ap (λ (c : Bool). if c then by_list kind (entries_of one.allow) t asked else true) h
+          ∙ q.same (entries_of one.allow) t asked
+          ∙ if_false (list_any (has_subject t) (views QueuedSubjects any (entries_of one.allow))) (list_any (has t asked) (views Queued any (entries_of one.allow))) (list_any (plain_covers t) (entries_of one.allow))
+          (subjects_back u queue (view_in (Whole kind) any found.0) w t asked sample (entries_of one.allow) in_allow none)
+          (any_in (plain_covers t) found.0 (entries_of one.allow) found.1
+          (two (is_plain found.0) (covers found.0.subject t) parts.0 (and_parts (covers found.0.subject t) (queue_has (queue_in (Whole kind) any found.0) asked) sample.first).0)))
 
       allowed_queues : IsWithQueues kind → has_list kind one ≡ true → by_queue (entries_of one.allow) u queue ≡ true → IsAllowedBy u queue
       allowed_queues q h holds = by_around (list_any (has_subject u) (views QueuedSubjects any (entries_of one.allow))) refl holds
@@ -608,8 +605,8 @@ module _ (kind : MessageKind) (one other : Rules) where
     -- ---- where all samples are judged alike
 
     module _ (judge : Judging)
-      (judges : (t : List Token) (asked : Queue) → is_question kind t ≡ true → IsAskedWith (has_queue kind) asked → judge t asked ≡ (allows kind one t asked && not (allows kind other t asked)))
-      (alike : (b : Bool) → (b ≡ true → has_tails kind ≡ true) → (n : ℕ) → n < search.most → AllAlike judge search b (n + 1)) where
+        (judges : (t : List Token) (asked : Queue) → is_question kind t ≡ true → IsAskedWith (has_queue kind) asked → judge t asked ≡ (allows kind one t asked && not (allows kind other t asked)))
+        (alike : (b : Bool) → (b ≡ true → has_tails kind ≡ true) → (n : ℕ) → n < search.most → AllAlike judge search b (n + 1)) where
       -- two reasons that both have a question, of which the first reaches the second: their sample was judged alike
       pair : (u : List Token) (queue : Queue) → is_question kind u ≡ true → IsAskedWith (has_queue kind) queue → (v w : View) (r : ℕ) (i : IsIn (v, r) (reasons kind any one other)) (j : IsIn w (refusals kind any one other)) →
           j.place < r → IsKnownView v → IsKnownView w → has u queue v ≡ true → has u queue w ≡ true →
@@ -678,7 +675,7 @@ module _ (kind : MessageKind) (one other : Rules) where
             let least = a.least in
             by_pair found.0 there.0 (omega (arith, less, least)) (subst IsKnownView o.is (known_view (Whole kind) o.entry (in_other_deny o.entry o.inside))) found.2
             (λ t asked sample.
-              ap (λ (b : Bool). not b && permitted kind other t asked) (any_in (has t asked) found.0 (own kind any other) found.1 sample.second))
+            ap (λ (b : Bool). not b && permitted kind other t asked) (any_in (has t asked) found.0 (own kind any other) found.1 sample.second))
 
         by_last : has_list kind other ≡ true → ((e : Entry) → IsIn e (listed kind other) → looks_at kind e ≡ true → covers e.subject u ≡ true → ⊥) →
             ((t : List Token) (asked : Queue) → IsPairSample u queue a.reason (any, any) t asked → by_list kind (entries_of other.allow) t asked ≡ false) → ⊥
@@ -699,10 +696,10 @@ module _ (kind : MessageKind) (one other : Rules) where
         by_simple simple h none =
             by_last h
             (λ e inside looks covered.
-              both (list_any (has u queue) (views (Whole kind) any (entries_of other.allow)))
-              (any_in (has u queue) (view_in (Whole kind) any e) (views (Whole kind) any (entries_of other.allow)) (in_views (Whole kind) e (entries_of other.allow) (in_listed e inside) looks)
-                (two (covers e.subject u) (queue_has (queue_in (Whole kind) any e) queue) covered (of_every e (simple.unqueued (and_parts (has_allow kind) (is_some other.allow) h).0))))
-              none)
+            both (list_any (has u queue) (views (Whole kind) any (entries_of other.allow)))
+            (any_in (has u queue) (view_in (Whole kind) any e) (views (Whole kind) any (entries_of other.allow)) (in_views (Whole kind) e (entries_of other.allow) (in_listed e inside) looks)
+            (two (covers e.subject u) (queue_has (queue_in (Whole kind) any e) queue) covered (of_every e (simple.unqueued (and_parts (has_allow kind) (is_some other.allow) h).0))))
+            none)
             (λ t asked sample. simple.same (entries_of other.allow) t asked ∙ views_back u queue a.reason (any, any) t asked sample (Whole kind) (entries_of other.allow) in_other_allow none)
           where
             of_every : (e : Entry) → has_queue kind ≡ false → queue_has (queue_in (Whole kind) any e) queue ≡ true
@@ -725,22 +722,22 @@ module _ (kind : MessageKind) (one other : Rules) where
             by_pair (view_in QueuedSubjects any o.entry) there.0 there.1 (known_view QueuedSubjects o.entry (in_other_allow o.entry o.inside))
             (two (covers o.entry.subject u) (queue_has any queue) covered (any_queue (has_queue kind) queue with_queue))
             (λ t asked sample.
-              and_with_false (not (denied kind other t asked)) (permitted kind other t asked)
-              (ap (λ (c : Bool). if c then by_list kind (entries_of other.allow) t asked else true) h ∙ q.same (entries_of other.allow) t asked
-                ∙ if_true_false (list_any (has_subject t) (views QueuedSubjects any (entries_of other.allow))) (list_any (has t asked) (views Queued any (entries_of other.allow))) (list_any (plain_covers t) (entries_of other.allow))
-                  (any_in (has_subject t) (view_in QueuedSubjects any o.entry) (views QueuedSubjects any (entries_of other.allow)) (in_views QueuedSubjects o.entry (entries_of other.allow) o.inside o.taken)
-                    (and_parts (covers o.entry.subject t) (queue_has any asked) sample.second).0)
-                  (views_back u queue a.reason (view_in QueuedSubjects any o.entry) t asked sample Queued (entries_of other.allow) in_other_allow none)))
+            and_with_false (not (denied kind other t asked)) (permitted kind other t asked)
+            (ap (λ (c : Bool). if c then by_list kind (entries_of other.allow) t asked else true) h ∙ q.same (entries_of other.allow) t asked
+            ∙ if_true_false (list_any (has_subject t) (views QueuedSubjects any (entries_of other.allow))) (list_any (has t asked) (views Queued any (entries_of other.allow))) (list_any (plain_covers t) (entries_of other.allow))
+            (any_in (has_subject t) (view_in QueuedSubjects any o.entry) (views QueuedSubjects any (entries_of other.allow)) (in_views QueuedSubjects o.entry (entries_of other.allow) o.inside o.taken)
+            (and_parts (covers o.entry.subject t) (queue_has any asked) sample.second).0)
+            (views_back u queue a.reason (view_in QueuedSubjects any o.entry) t asked sample Queued (entries_of other.allow) in_other_allow none)))
 
         -- none has the subjects, of either kind
         by_none : IsWithQueues kind → has_list kind other ≡ true → list_any (has_subject u) (views QueuedSubjects any (entries_of other.allow)) ≡ false → list_any (plain_covers u) (entries_of other.allow) ≡ false → ⊥
         by_none q h none plain =
             by_last h (λ e inside looks covered. by_part e (in_listed e inside) covered (is_or_not (is_queued e)))
             (λ t asked sample.
-              q.same (entries_of other.allow) t asked
-              ∙ if_false_false (list_any (has_subject t) (views QueuedSubjects any (entries_of other.allow))) (list_any (has t asked) (views Queued any (entries_of other.allow))) (list_any (plain_covers t) (entries_of other.allow))
-                (subjects_back u queue a.reason (any, any) t asked sample (entries_of other.allow) in_other_allow none)
-                (plain_back u queue a.reason (any, any) t asked sample (entries_of other.allow) in_other_allow plain))
+            q.same (entries_of other.allow) t asked
+            ∙ if_false_false (list_any (has_subject t) (views QueuedSubjects any (entries_of other.allow))) (list_any (has t asked) (views Queued any (entries_of other.allow))) (list_any (plain_covers t) (entries_of other.allow))
+            (subjects_back u queue a.reason (any, any) t asked sample (entries_of other.allow) in_other_allow none)
+            (plain_back u queue a.reason (any, any) t asked sample (entries_of other.allow) in_other_allow plain))
           where
             by_part : (e : Entry) → IsIn e (entries_of other.allow) → covers e.subject u ≡ true → (is_queued e ≡ true) ⊎ (is_queued e ≡ false) → ⊥
             by_part e inside covered (inl queued) =

@@ -11,8 +11,8 @@ use Rattle.pattern_sets.proofs.Counts.{pattern_few}
 use Rattle.pattern_sets.proofs.Exact.{concrete, few_test, front_of_front, front_short, front_subject, length_front, plain}
 use Rattle.pattern_sets.proofs.Sampling.{cover_parts, lengths_suffice, samples_suffice}
 use Rattle.pattern_sets.specs.Asking.{common, IsQueue}
-use Rattle.pattern_sets.specs.Laws.{has_tail, has_token, sample_of, StandsFor}
-use Rattle.pattern_sets.specs.Samples.{part, tail}
+use Rattle.pattern_sets.specs.Laws.{has_tail, has_token, sample_of}
+use Rattle.pattern_sets.specs.Samples.{part}
 use Rattle.message_changes.proofs.Members.{two}
 use Rattle.message_changes.proofs.Verdicts.{any, any_covers, no_queue, queue_has, subject_same}
 use Rattle.message_changes.specs.Exact.{IsAskedWith}
@@ -106,8 +106,8 @@ shorten m u h = by_length (cases_lt (min (m + 1) 512) (length u))
             pattern = subst (λ (n : ℕ). IsPattern (take n u)) (sym next) (front_pattern m u h);
             subject = λ k. front_subject m u k;
             same =
-            λ p less.
-              lengths_suffice p (take (m + 1) u) u (omega (arith, less, size)) (omega (arith, less, more)) (front_of_front (length p) (m + 1) u (omega (arith, less)));
+                λ p less.
+                lengths_suffice p (take (m + 1) u) u (omega (arith, less, size)) (omega (arith, less, more)) (front_of_front (length p) (m + 1) u (omega (arith, less)));
           },
         )
 

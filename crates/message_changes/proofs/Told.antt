@@ -1,17 +1,19 @@
 -- What the lines say of what has none.
-use Rattle.std.proofs.Common.{◌≡◌, ◌∙◌, ◌<◌, ◌++◌, ◌&&◌, ◌||◌, ℕ, Bool, true, false, not, if◌then◌else◌, List, [], ◌∷◌, length, Option, Some, None, ap, refl, sym, subst, append_assoc, append-nil}
+use Rattle.std.proofs.Common.{◌≡◌, ◌∙◌, ◌<◌, ◌++◌, ◌&&◌, ◌||◌, Bool, true, false, not, if◌then◌else◌, List, [], ◌∷◌, length, Option, Some, None, ap, refl, sym, append_assoc, append-nil}
 use Rattle.std.specs.Prelude.{is_some}
 use Rattle.std.specs.List.{list_any}
+use Rattle.std.specs.Option.{option_map}
 use Rattle.std.proofs.lemmas.Bool.{and_parts, or_parts}
 use Rattle.std.proofs.lemmas.List.Folds.{list_any-append}
 use Rattle.subjects.specs.Subject.{Token, covers, IsSubject}
 use Rattle.permissions.specs.Lists.{Entry, Lists, Queue, Rules, is_plain, is_queued}
 use Rattle.pattern_sets.proofs.Exact.{concrete}
-use Rattle.message_changes.proofs.Members.{and_true, any_kept, any_same, both, by_not, found_in, in_first, in_left, in_more, in_right, none_in, none_more, two, IsIn}
-use Rattle.message_changes.proofs.Verdicts.{allows, any, any_covers, by_queue, by_whole, denied, differs_is, has, has_subject, no_queue, permitted, plain_covers, subject_same}
-use Rattle.message_changes.specs.Exact.{has_part, has_parts, is_kind, is_of, is_same, is_wide, AreAllAlike, AreTold, HasNone, HasNoWide, IsAskedWith, IsFront, NoneChanges}
-use Rattle.message_changes.specs.Judging.{changes_by, differs, is_question}
-use Rattle.message_changes.specs.Reasons.{entries_of, has_tails, own, part_or, takes, view_in, views}
+use Rattle.message_changes.proofs.Members.{and_true, any_kept, any_same, both, by_not, found_in, in_first, in_more, none_in, none_more, two, IsIn}
+use Rattle.message_changes.proofs.Verdicts.{allows, any, any_covers, by_queue, by_whole, differs_is, has, has_subject, no_queue, plain_covers, subject_same}
+use Rattle.message_changes.specs.Exact.{has_part, has_parts, is_kind, is_of, is_same, is_wide, AreAllAlike, AreJudgedAlike, AreTold, HasNone, HasNoWide, IsAskedWith, IsFront, NoneChanges}
+use Rattle.permissions.specs.Verdicts.{is_allowed}
+use Rattle.message_changes.specs.Judging.{differs, if_so, is_allowed_if, is_question, is_refused_if, verdict}
+use Rattle.message_changes.specs.Reasons.{entries_of, has_queue, has_tails, part_or, takes, view_in, views}
 use Rattle.message_changes.specs.declared.changes.MessageChange.{MessageChange}
 use Rattle.message_changes.specs.declared.form.Form.TheVariants.{Whole, Queued, QueuedSubjects}
 use Rattle.message_changes.specs.declared.kind.MessageKind.{MessageKind}
@@ -36,22 +38,22 @@ module _ (es : List Entry) (plain : list_any has_part es ≡ false) (u q : List 
   subscribe_same =
       any_kept (view_in (Whole QueueSubscribe) any) (has u (Some q)) (takes (Whole QueueSubscribe)) es
       ∙ any_same_in (λ (e : Entry). covers e.subject u && covers (part_or any e.queue) q) (λ (e : Entry). is_plain e && (covers e.subject u && true)) es
-        (λ e k. plain_part e.queue (covers e.subject u) q (concrete q h).some (no_part e k))
+      (λ e k. plain_part e.queue (covers e.subject u) q (concrete q h).some (no_part e k))
       ∙ sym (any_kept (view_in (Whole Subscribe) any) (has u None) (takes (Whole Subscribe)) es)
 
   delivery_same : by_whole QueueDelivery es u (Some q) ≡ by_whole Delivery es u None
   delivery_same =
       any_kept (view_in (Whole QueueDelivery) any) (has u (Some q)) (takes (Whole QueueDelivery)) es
       ∙ any_same_in (λ (e : Entry). covers e.subject u && covers (part_or any e.queue) q) (λ (e : Entry). is_plain e && (covers e.subject u && true)) es
-        (λ e k. plain_part e.queue (covers e.subject u) q (concrete q h).some (no_part e k))
+      (λ e k. plain_part e.queue (covers e.subject u) q (concrete q h).some (no_part e k))
       ∙ sym (any_kept (view_in (Whole Delivery) any) (has u None) (takes (Whole Delivery)) es)
 
   none_around : list_any (has_subject u) (views QueuedSubjects any es) ≡ false
   none_around =
       any_kept (view_in QueuedSubjects any) (has_subject u) (takes QueuedSubjects) es
       ∙ by_not (list_any (λ (e : Entry). is_queued e && covers e.subject u) es) (λ holds.
-        let found = found_in (λ (e : Entry). is_queued e && covers e.subject u) es holds in
-        both (is_queued found.0) (and_parts (is_queued found.0) (covers found.0.subject u) found.2).0 (no_part found.0 found.1))
+      let found = found_in (λ (e : Entry). is_queued e && covers e.subject u) es holds in
+      both (is_queued found.0) (and_parts (is_queued found.0) (covers found.0.subject u) found.2).0 (no_part found.0 found.1))
 
   queue_same : by_queue es u (Some q) ≡ by_whole Subscribe es u None
   queue_same =
@@ -157,18 +159,18 @@ kind_wide kind change t e = by_kind kind change.kind t e
 none_wide : (kind : MessageKind) (is_gain : Bool) (xs : List MessageChange) → has_tails kind ≡ true → HasNoWide is_gain xs → HasNone kind is_gain xs
 none_wide kind is_gain xs t none = none_more (is_of kind is_gain) (is_wide is_gain) xs
     (λ x k e.
-      let parts = and_parts (is_kind kind x.kind) (is_same is_gain x.is_gain) e in
-      two (has_tails x.kind) (is_same is_gain x.is_gain) (kind_wide kind x t parts.0) parts.1)
+    let parts = and_parts (is_kind kind x.kind) (is_same is_gain x.is_gain) e in
+    two (has_tails x.kind) (is_same is_gain x.is_gain) (kind_wide kind x t parts.0) parts.1)
     none
 
 module _ (old new : Lists) (a b c d e : List MessageChange) (ab : IsFront a b) (bc : IsFront b c) (cd : IsFront c d) (de : IsFront d e)
-  (publish : (is_gain : Bool) → HasNone Publish is_gain a → NoneChanges old new is_gain Publish)
-  (subscribe : (is_gain : Bool) → HasNone Subscribe is_gain b → NoneChanges old new is_gain Subscribe)
-  (queued : (is_gain : Bool) → NoneChanges old new is_gain Subscribe → HasNone QueueSubscribe is_gain c → NoneChanges old new is_gain QueueSubscribe)
-  (gained : HasNoWide true d → HasNone Delivery true d → NoneChanges old new true Delivery)
-  (queue_gained : HasNoWide true d → HasNone Delivery true d → HasNone QueueDelivery true d → NoneChanges old new true QueueDelivery)
-  (lost : HasNoWide false e → HasNone Delivery false e → NoneChanges old new false Delivery)
-  (queue_lost : HasNoWide false e → HasNone Delivery false e → HasNone QueueDelivery false e → NoneChanges old new false QueueDelivery) where
+    (publish : (is_gain : Bool) → HasNone Publish is_gain a → NoneChanges old new is_gain Publish)
+    (subscribe : (is_gain : Bool) → HasNone Subscribe is_gain b → NoneChanges old new is_gain Subscribe)
+    (queued : (is_gain : Bool) → NoneChanges old new is_gain Subscribe → HasNone QueueSubscribe is_gain c → NoneChanges old new is_gain QueueSubscribe)
+    (gained : HasNoWide true d → HasNone Delivery true d → NoneChanges old new true Delivery)
+    (queue_gained : HasNoWide true d → HasNone Delivery true d → HasNone QueueDelivery true d → NoneChanges old new true QueueDelivery)
+    (lost : HasNoWide false e → HasNone Delivery false e → NoneChanges old new false Delivery)
+    (queue_lost : HasNoWide false e → HasNone Delivery false e → HasNone QueueDelivery false e → NoneChanges old new false QueueDelivery) where
   ce : IsFront c e
   ce = front_after c d e cd de
 
@@ -194,8 +196,48 @@ module _ (old new : Lists) (a b c d e : List MessageChange) (ab : IsFront a b) (
     publish = λ none. publish is_gain (none_before (is_of Publish is_gain) a e ae none);
     subscribe = no_subscription is_gain;
     queue_subscribe =
-    λ wide.
-      queued is_gain (no_subscription is_gain (none_wide Subscribe is_gain e refl wide)) (none_before (is_of QueueSubscribe is_gain) c e ce (none_wide QueueSubscribe is_gain e refl wide));
+        λ wide.
+        queued is_gain (no_subscription is_gain (none_wide Subscribe is_gain e refl wide)) (none_before (is_of QueueSubscribe is_gain) c e ce (none_wide QueueSubscribe is_gain e refl wide));
     delivery = λ wide none last. no_delivery is_gain wide none;
     queue_delivery = λ wide none last. no_queue_delivery is_gain wide none last;
   }
+
+-- ---- no lines
+
+same_allowed : (a b : Bool) → (a && not b) ≡ false → (b && not a) ≡ false → a ≡ b
+same_allowed true true e f = refl
+same_allowed true false e f = absurd (both true refl e)
+same_allowed false true e f = absurd (both true refl f)
+same_allowed false false e f = refl
+
+verdicts_differ : (kind : MessageKind) (one other : Lists) (u : List Token) (queue : Queue) → is_question kind u ≡ true →
+    differs kind one other u queue ≡ (is_allowed (verdict kind one u queue) && not (is_allowed (verdict kind other u queue)))
+verdicts_differ kind one other u queue h =
+    ap (λ (b : Bool). is_allowed_if (option_map (λ question. verdict kind one question queue) (if_so b u)) && is_refused_if (option_map (λ question. verdict kind other question queue) (if_so b u))) h
+
+alike_both : (kind : MessageKind) (old new : Lists) → NoneChanges old new true kind → NoneChanges old new false kind → (u : List Token) (queue : Queue) → is_question kind u ≡ true → IsAskedWith (has_queue kind) queue →
+    is_allowed (verdict kind old u queue) ≡ is_allowed (verdict kind new u queue)
+alike_both kind old new gained lost u queue question k =
+    same_allowed (is_allowed (verdict kind old u queue)) (is_allowed (verdict kind new u queue)) (sym (verdicts_differ kind old new u queue question) ∙ lost u queue question k)
+    (sym (verdicts_differ kind new old u queue question) ∙ gained u queue question k)
+
+pub judged_alike : (old new : Lists) (changes : List MessageChange) → ((is_gain : Bool) → AreTold old new is_gain changes) → changes ≡ [] → AreJudgedAlike old new
+judged_alike old new changes told none =
+    let gained = told true in
+    let lost = told false in
+    record {
+      publish = λ s h. alike_both Publish old new (gained.publish (empty (is_of Publish true))) (lost.publish (empty (is_of Publish false))) s None h refl;
+      subscribe = λ p h. alike_both Subscribe old new (gained.subscribe (empty (is_of Subscribe true))) (lost.subscribe (empty (is_of Subscribe false))) p None h refl;
+      queue_subscribe = λ p q h k. alike_both QueueSubscribe old new (gained.queue_subscribe (empty (is_wide true))) (lost.queue_subscribe (empty (is_wide false))) p (Some q) h (q, refl, k);
+      delivery =
+          λ s h.
+          alike_both Delivery old new (gained.delivery (empty (is_wide true)) (empty (is_of Delivery true)) (empty (is_of QueueDelivery true)))
+          (lost.delivery (empty (is_wide false)) (empty (is_of Delivery false)) (empty (is_of QueueDelivery false))) s None h refl;
+      queue_delivery =
+          λ s q h k.
+          alike_both QueueDelivery old new (gained.queue_delivery (empty (is_wide true)) (empty (is_of Delivery true)) (empty (is_of QueueDelivery true)))
+          (lost.queue_delivery (empty (is_wide false)) (empty (is_of Delivery false)) (empty (is_of QueueDelivery false))) s (Some q) h (q, refl, k);
+    }
+  where
+    empty : (p : MessageChange → Bool) → list_any p changes ≡ false
+    empty p = ap (list_any p) none

@@ -1,11 +1,11 @@
 -- What lists allow, by their reasons.
-use Rattle.std.proofs.Common.{◌≡◌, ◌∙◌, ◌<◌, ◌&&◌, ◌||◌, ℕ, Bool, true, false, not, if◌then◌else◌, List, [], ◌∷◌, length, map, Option, Some, None, position, ap, refl, sym, subst, arith}
+use Rattle.std.proofs.Common.{◌≡◌, ◌∙◌, ◌<◌, ◌&&◌, ◌||◌, ℕ, Bool, true, false, not, if◌then◌else◌, List, [], ◌∷◌, length, Option, Some, None, position, ap, refl, sym, subst, arith}
 use Rattle.std.specs.Prelude.{is_some}
-use Rattle.std.specs.List.{filter, list_all, list_any}
+use Rattle.std.specs.List.{list_any}
 use Rattle.std.specs.Option.{option_map}
-use Rattle.subjects.specs.Subject.{Token, covers, in_set, is_literal, is_pattern, is_subject, IsPattern, IsSubject}
+use Rattle.subjects.specs.Subject.{Token, covers, in_set, IsSubject}
 use Rattle.permissions.specs.Lists.{Entry, Lists, Queue, Rules, has_queue as has_part, is_for, is_plain, is_queued, names}
-use Rattle.permissions.specs.Verdicts.{allow_verdict, by_allow_list, by_entry, by_entry_with, by_plain_entry, by_queue_entries, by_queue_entry, delivery_verdict, is_allowed, least_cover, publish_verdict, subscribe_verdict, unless_denied}
+use Rattle.permissions.specs.Verdicts.{allow_verdict, by_allow_list, by_entry, by_entry_with, by_plain_entry, by_queue_entries, is_allowed, least_cover, unless_denied}
 use Rattle.permissions.specs.declared.verdict.Verdict.{Verdict}
 use Rattle.pattern_sets.proofs.Exact.{concrete, covers_as}
 use Rattle.pattern_sets.specs.Samples.{tail}
@@ -13,7 +13,7 @@ use Rattle.message_changes.proofs.Members.{and_true, any_kept, any_same, positio
 use Rattle.message_changes.specs.Exact.{IsAskedWith}
 use Rattle.message_changes.specs.Judging.{differs, if_so, is_allowed_if, is_question, is_refused_if, verdict}
 use Rattle.message_changes.specs.Reasons.{entries_of, has_list, has_queue, looks_at, own, part_or, rules_of, takes, view_in, views, View}
-use Rattle.message_changes.specs.declared.form.Form.TheVariants.{Whole, Subjects, Queued, QueuedSubjects}
+use Rattle.message_changes.specs.declared.form.Form.TheVariants.{Whole, Queued, QueuedSubjects}
 use Rattle.message_changes.specs.declared.kind.MessageKind.{MessageKind}
 use Rattle.message_changes.specs.declared.kind.MessageKind.TheVariants.{Publish, Subscribe, QueueSubscribe, Delivery, QueueDelivery}
 
@@ -162,18 +162,18 @@ judged QueueSubscribe lists u (Some p) h k =
     let known : IsSubject p = subject_same p k.0 k.1 k.2 in
     allowed_unless (least_cover (is_for (Some p)) u lists.subscribe.deny) (by_allow_list (allow_verdict u (Some p)) lists.subscribe.allow)
     ∙ joined (whole_is QueueSubscribe u (Some p) (λ (e : Entry). is_for (Some p) e && covers e.subject u) lists.subscribe.deny (λ e. queue_test e.queue p known (covers e.subject u)))
-      (queued_allowed lists.subscribe.allow u p known)
+    (queued_allowed lists.subscribe.allow u p known)
 judged Delivery lists u (Some q) h k = absurd (cc)
 judged Delivery lists u None h k =
     allowed_unless (position (λ (e : Entry). is_for None e && in_set e.subject u) lists.subscribe.deny) _
     ∙ joined (whole_is Delivery u None (λ (e : Entry). is_for None e && in_set e.subject u) lists.subscribe.deny
-        (λ e. ap (λ (b : Bool). is_for None e && b) (sym (covers_as e.subject u (concrete u h).each)) ∙ plain_test e.queue (covers e.subject u))) refl
+    (λ e. ap (λ (b : Bool). is_for None e && b) (sym (covers_as e.subject u (concrete u h).each)) ∙ plain_test e.queue (covers e.subject u))) refl
 judged QueueDelivery lists u None h k = absurd (no_queue k.0 k.1)
 judged QueueDelivery lists u (Some p) h k =
     let known : IsSubject p = subject_same p k.0 k.1 k.2 in
     allowed_unless (position (λ (e : Entry). is_for (Some p) e && in_set e.subject u) lists.subscribe.deny) _
     ∙ joined (whole_is QueueDelivery u (Some p) (λ (e : Entry). is_for (Some p) e && in_set e.subject u) lists.subscribe.deny
-        (λ e. ap (λ (b : Bool). is_for (Some p) e && b) (sym (covers_as e.subject u (concrete u h).each)) ∙ queue_test e.queue p known (covers e.subject u))) refl
+    (λ e. ap (λ (b : Bool). is_for (Some p) e && b) (sym (covers_as e.subject u (concrete u h).each)) ∙ queue_test e.queue p known (covers e.subject u))) refl
 
 -- two lists judge a question otherwise where the one allows it and the other doesn't
 pub differs_is : (kind : MessageKind) (one other : Lists) (u : List Token) (queue : Queue) → is_question kind u ≡ true → IsAskedWith (has_queue kind) queue →

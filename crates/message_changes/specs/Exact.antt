@@ -1,8 +1,9 @@
 -- Where no question is judged otherwise, and what the lines say of it.
-use Rattle.std.specs.Prelude.{◌≡◌, ◌++◌, ◌&&◌, Bool, true, false, not, List, Option, Some, None, is_some}
+use Rattle.std.specs.Prelude.{◌≡◌, ◌++◌, ◌&&◌, Bool, true, false, not, List, Some, None, is_some}
 use Rattle.std.specs.List.{list_any}
-use Rattle.subjects.specs.Subject.{Token, IsSubject}
+use Rattle.subjects.specs.Subject.{Token, IsPattern, IsSubject}
 use Rattle.permissions.specs.Lists.{Entry, Lists, Queue, Rules}
+use Rattle.permissions.specs.Verdicts.{delivery_verdict, is_allowed, publish_verdict, subscribe_verdict}
 use Rattle.message_changes.specs.Judging.{changes_by, differs, is_question}
 use Rattle.message_changes.specs.Reasons.{entries_in, has_queue, has_tails}
 use Rattle.message_changes.specs.declared.changes.MessageChange.{MessageChange}
@@ -62,6 +63,14 @@ pub record AreTold (old new : Lists) (is_gain : Bool) (changes : List MessageCha
   pub queue_subscribe : HasNoWide is_gain changes → NoneChanges old new is_gain QueueSubscribe
   pub delivery : HasNoWide is_gain changes → HasNone Delivery is_gain changes → HasNone QueueDelivery is_gain changes → NoneChanges old new is_gain Delivery
   pub queue_delivery : HasNoWide is_gain changes → HasNone Delivery is_gain changes → HasNone QueueDelivery is_gain changes → NoneChanges old new is_gain QueueDelivery
+
+-- Both lists allow the same publishes, subscriptions and deliveries, with a queue or without one.
+pub record AreJudgedAlike (old new : Lists) : Type 0 where
+  pub publish : (subject : List Token) → IsSubject subject → is_allowed (publish_verdict old subject) ≡ is_allowed (publish_verdict new subject)
+  pub subscribe : (pattern : List Token) → IsPattern pattern → is_allowed (subscribe_verdict old pattern None) ≡ is_allowed (subscribe_verdict new pattern None)
+  pub queue_subscribe : (pattern queue : List Token) → IsPattern pattern → IsSubject queue → is_allowed (subscribe_verdict old pattern (Some queue)) ≡ is_allowed (subscribe_verdict new pattern (Some queue))
+  pub delivery : (subject : List Token) → IsSubject subject → is_allowed (delivery_verdict old subject None) ≡ is_allowed (delivery_verdict new subject None)
+  pub queue_delivery : (subject queue : List Token) → IsSubject subject → IsSubject queue → is_allowed (delivery_verdict old subject (Some queue)) ≡ is_allowed (delivery_verdict new subject (Some queue))
 
 -- ---- lists without queue parts
 

@@ -1,8 +1,8 @@
 //! What a user's new lists judge otherwise than the old ones, a question of each kind.
-ghost use Rattle.std.specs.Prelude.{◌≡◌, ◌||◌, Bool, false, IfOk, OnOk, is_some};
+ghost use Rattle.std.specs.Prelude.{◌≡◌, ◌||◌, [], Bool, false, IfOk, OnOk, is_some};
 ghost use Rattle.std.specs.List.{list_any};
 ghost use Rattle.pattern_sets.specs.Judging.{IsFound};
-ghost use Rattle.message_changes.specs.Exact.{has_part, has_parts, is_of, is_same, is_wide, AreTold, HasNone, HasNoWide, IsFront, NoneChanges};
+ghost use Rattle.message_changes.specs.Exact.{has_part, has_parts, is_of, is_same, is_wide, AreJudgedAlike, AreTold, HasNone, HasNoWide, IsFront, NoneChanges};
 ghost use Rattle.message_changes.specs.Judging.{changes_by, AreChanges};
 ghost use Rattle.message_changes.specs.declared.kind.MessageKind.TheVariants.{Subscribe, QueueSubscribe, Delivery, QueueDelivery};
 
@@ -28,7 +28,8 @@ pub struct MessageChange {
 /// Returns a question of each kind that the new lists allow and the old refuse, and the reverse: of publishes, of
 /// subscriptions without a queue, of those with one, and of deliveries, what is gained first. With queues nothing is
 /// asked where no entry has a queue part, since each verdict is that without a queue then. Of deliveries nothing is
-/// told where a subscription is told that is gained or lost likewise. `NoMemory` where memory could not be had.
+/// told where a subscription is told that is gained or lost likewise. Where nothing is told, both lists allow the same.
+/// `NoMemory` where memory could not be had.
 pub fn changes_between(
     alloc: Global,
     old: &Compiled,
@@ -36,6 +37,7 @@ pub fn changes_between(
 ) -> Result<Vec<MessageChange>, NoMemory>
     ensures changes { IfOk result (λ changes. AreChanges old.now new.now changes.items) }
     ensures told { IfOk result (λ changes. (is_gain : Bool) → AreTold old.now new.now is_gain changes.items) }
+    ensures alike { IfOk result (λ changes. changes.items ≡ [] → AreJudgedAlike old.now new.now) }
 {
     let mut all = Vec::new(alloc);
     add_both(alloc, &mut all, MessageKind::Publish, old, new)?;

@@ -44,7 +44,13 @@ impl Form {
         ensures { result.now ≡ queue_in self any.now entry.now }
     {
         match self {
-            Form::Whole(kind) => { if kind.has_queue() { part_or(entry, any) } else { any } }
+            Form::Whole(kind) => {
+                if kind.has_queue() {
+                    part_or(entry, any)
+                } else {
+                    any
+                }
+            }
             Form::Subjects(_) => any,
             Form::Queued => part_or(entry, any),
             Form::QueuedSubjects => any,

@@ -213,10 +213,7 @@ fn add_queues_of<'a>(
 }
 
 /// Appends the patterns of entries.
-fn add_subjects<'a>(
-    all: &mut Vec<&'a Pattern>,
-    entries: &'a [PermEntry],
-) -> Result<(), NoMemory>
+fn add_subjects<'a>(all: &mut Vec<&'a Pattern>, entries: &'a [PermEntry]) -> Result<(), NoMemory>
     ensures { OnOk result (map (λ p. p.now) all.new.items ≡ map (λ p. p.now) all.old.items ++ map subject_of entries.now) }
 {
     for entry in entries {

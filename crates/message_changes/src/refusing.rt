@@ -56,7 +56,11 @@ impl<'a> Refusing<'a> {
         ensures { (kind : MessageKind) (any : List Token) (one other : Rules) → IsRefusing kind any one other self.now → result ≡ reach_of kind any one other (reason_view reason.now) true }
     {
         let is_had = self.queued.has(reason);
-        if is_had { self.denials } else { self.reasons.len() }
+        if is_had {
+            self.denials
+        } else {
+            self.reasons.len()
+        }
     }
 
     fn plain_reach(&self, reason: &Reason<'_>) -> usize
@@ -68,10 +72,7 @@ impl<'a> Refusing<'a> {
 }
 
 /// Returns the reasons by which the second lists refuse.
-pub(crate) fn refusing_of<'a>(
-    alloc: Global,
-    rules: TwoRules<'a>,
-) -> Result<Refusing<'a>, NoMemory>
+pub(crate) fn refusing_of<'a>(alloc: Global, rules: TwoRules<'a>) -> Result<Refusing<'a>, NoMemory>
     ensures { IfOk result (IsRefusing rules.entry.kind rules.entry.any.now (first_of rules.entry) (second_of rules.entry)) }
 {
     let denied = deny_of(rules.one);

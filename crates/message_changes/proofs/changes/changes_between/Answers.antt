@@ -1,8 +1,7 @@
-use Rattle.std.proofs.Common.{Bool, sym, subst, true, false}
+use Rattle.std.proofs.Common.{sym, subst}
 use Rattle.std.specs.Prelude.{All}
 use Rattle.std.proofs.lemmas.List.Elements.{All-nil}
-use Rattle.message_changes.proofs.Told.{all_told, front_after}
-use Rattle.message_changes.specs.Exact.{AreTold}
+use Rattle.message_changes.proofs.Told.{all_told, judged_alike}
 use Rattle.message_changes.specs.Judging.{IsChange}
 use Rattle.message_changes.proofs.changes.changes_between.Goals as goal
 
@@ -18,3 +17,6 @@ returns-clause-told c =
     c.in_ok-add_both-2.ensures.front c.in_ok-add_queued.ensures.front c.in_ok-add_delivery.ensures.front c.in_ok-add_delivery-2.ensures.front
     c.in_ok-add_both.ensures.told c.in_ok-add_both-2.ensures.told c.in_ok-add_queued.ensures.told
     c.in_ok-add_delivery.ensures.delivery c.in_ok-add_delivery.ensures.queue_delivery c.in_ok-add_delivery-2.ensures.delivery c.in_ok-add_delivery-2.ensures.queue_delivery
+
+pub returns-clause-alike : goal.returns-clause-alike
+returns-clause-alike c = judged_alike c.args.old.now c.args.new.now c.add_delivery-2.new.all.items (returns-clause-told c)

@@ -1,7 +1,7 @@
-use Rattle.std.proofs.Common.{◌≡◌, ◌∙◌, ◌++◌, ◌∷◌, [], cond, ap, map, sym, take, List, ℕ}
+use Rattle.std.proofs.Common.{◌∙◌, ◌++◌, ◌∷◌, [], cond, ap, map, sym, take, List}
 use Rattle.std.specs.List.{filter}
 use Rattle.permissions.specs.Lists.{Entry}
-use Rattle.message_changes.specs.Reasons.{reason_view, takes, view_in, View}
+use Rattle.message_changes.specs.Reasons.{takes, view_in, View}
 use Rattle.message_changes.proofs.Members.{kept_more}
 use Rattle.message_changes.proofs.form.reasons_of.Goals as goal
 

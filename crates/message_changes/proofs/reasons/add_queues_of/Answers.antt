@@ -13,5 +13,5 @@ returns c =
     let deny = c.deny_of-deny.result.now in
     c.in_ok-add_queues-2.ensures ∙ ap (λ (l : List (List (List ℕ))). l ++ parts_of deny) c.in_ok-add_queues.ensures ∙ append_assoc before (parts_of allow) (parts_of deny)
     ∙ ap (λ (l : List (List (List ℕ))). before ++ l)
-      (sym (parts_more allow deny) ∙ ap (λ (l : List Entry). parts_of (l ++ deny)) c.allow_of-allow.ensures
-        ∙ ap (λ (l : List Entry). parts_of (entries_of (rules_by (option_copied c.args.rules)).allow ++ l)) c.deny_of-deny.ensures)
+    (sym (parts_more allow deny) ∙ ap (λ (l : List Entry). parts_of (l ++ deny)) c.allow_of-allow.ensures
+    ∙ ap (λ (l : List Entry). parts_of (entries_of (rules_by (option_copied c.args.rules)).allow ++ l)) c.deny_of-deny.ensures)

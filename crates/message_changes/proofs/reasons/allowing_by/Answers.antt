@@ -1,5 +1,5 @@
-use Rattle.std.proofs.Common.{◌≡◌, ◌∙◌, ap, sym, ℕ}
-use Rattle.message_changes.specs.Reasons.{first_of, is_for_queues, reach_of, reason_view, second_of, view_in, View}
+use Rattle.std.proofs.Common.{◌≡◌, ◌∙◌, ap, ℕ}
+use Rattle.message_changes.specs.Reasons.{first_of, is_for_queues, reach_of, second_of, view_in, View}
 use Rattle.message_changes.specs.declared.form.Form.TheVariants.{Whole}
 use Rattle.message_changes.proofs.reasons.allowing_by.Goals as goal
 

@@ -1,5 +1,4 @@
-use Rattle.std.proofs.Common.{◌≡◌, ◌∙◌, ◌++◌, ◌∷◌, [], cond, ap, map, sym, take, List, ℕ}
-use Rattle.std.specs.List.{filter}
+use Rattle.std.proofs.Common.{◌∙◌, ◌++◌, ◌∷◌, [], cond, ap, sym, take, List, ℕ}
 use Rattle.permissions.specs.Lists.{Entry}
 use Rattle.message_changes.specs.Reasons.{first_of, is_reason, reason_of, reasons_by_entries, second_of, View}
 use Rattle.message_changes.proofs.Members.{kept_more}

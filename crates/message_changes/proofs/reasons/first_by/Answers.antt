@@ -1,4 +1,4 @@
-use Rattle.std.proofs.Common.{◌≡◌, ◌∙◌, ◌++◌, ap, subst, sym, true, false, map, List, ℕ, None}
+use Rattle.std.proofs.Common.{◌≡◌, ◌∙◌, ◌++◌, ap, subst, sym, false, map, List, ℕ, None}
 use Rattle.std.specs.List.{list_any}
 use Rattle.subjects.specs.Subject.{is_literal}
 use Rattle.pattern_sets.specs.Laws.{has_token}
@@ -23,8 +23,8 @@ returns-then-not-has_tails-clause-none c = λ none.
     let lists = c.args.lists.now in
     let kind = lists.kind in
     let is =
-        is_search kind c.args.rules.kind c.args.rules.any.now (rules_of kind lists.one.now) (rules_of kind lists.other.now) (first_of c.args.rules) (second_of c.args.rules) c.in_ok-search.search
-        c.requires.kind c.requires.any c.requires.one c.requires.other c.in_ok-search.ensures in
+    is_search kind c.args.rules.kind c.args.rules.any.now (rules_of kind lists.one.now) (rules_of kind lists.other.now) (first_of c.args.rules) (second_of c.args.rules) c.in_ok-search.search
+    c.requires.kind c.requires.any c.requires.one c.requires.other c.in_ok-search.ensures in
     all_alike kind lists.one.now lists.other.now c.in_ok-search.search is c.in_ok-found.found None none c.in_ok-found.ensures.exact
     (λ t. absurd (both (has_tails kind) t (sym (ap has_tails c.requires.kind) ∙ sym c.has_tails.ensures ∙ c.if-not-has_tails.true)))
 
@@ -33,7 +33,7 @@ returns-clause-none c = λ none.
     let lists = c.args.lists.now in
     let kind = lists.kind in
     let is =
-        is_search kind c.args.rules.kind c.args.rules.any.now (rules_of kind lists.one.now) (rules_of kind lists.other.now) (first_of c.args.rules) (second_of c.args.rules) c.in_ok-search.search
-        c.requires.kind c.requires.any c.requires.one c.requires.other c.in_ok-search.ensures in
+    is_search kind c.args.rules.kind c.args.rules.any.now (rules_of kind lists.one.now) (rules_of kind lists.other.now) (first_of c.args.rules) (second_of c.args.rules) c.in_ok-search.search
+    c.requires.kind c.requires.any c.requires.one c.requires.other c.in_ok-search.ensures in
     all_alike kind lists.one.now lists.other.now c.in_ok-search.search is c.in_ok-found.found c.in_ok-tailed.tailed (sym c.is_some.ensures ∙ c.if-is_some.false) c.in_ok-found.ensures.exact
     (λ t. (none, c.in_ok-tailed.ensures.exact))

@@ -1,4 +1,4 @@
-use Rattle.std.proofs.Common.{◌≡◌, ◌∙◌, ◌&&◌, Bool, ap, sym, map, not, List}
+use Rattle.std.proofs.Common.{◌≡◌, ◌∙◌, ◌&&◌, Bool, ap, sym, not, List}
 use Rattle.message_changes.proofs.Covered.{had_is}
 use Rattle.message_changes.specs.Reasons.{first_of, is_had, own, reason_view, view_in, View}
 use Rattle.message_changes.specs.declared.form.Form.TheVariants.{Whole}

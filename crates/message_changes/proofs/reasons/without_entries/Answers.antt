@@ -1,5 +1,4 @@
 use Rattle.std.proofs.Common.{◌≡◌, ◌∙◌, ◌++◌, ◌∷◌, [], Bool, true, false, if◌then◌else◌, ap, sym, map, List, ℕ}
-use Rattle.std.proofs.lemmas.List.{map_push}
 use Rattle.pattern_sets.specs.declared.search.Allowing.{Allowing}
 use Rattle.message_changes.proofs.Covered.{had_is}
 use Rattle.message_changes.specs.Reasons.{allowing_view, first_of, is_had, own, reach_of, second_of, View}

@@ -12,8 +12,8 @@ returns-clause-fresh c =
     let all : map reason_view c.as_slice-all.result.now ≡ queued_of kind any (second_of c.args.rules) = ap (map reason_view) c.as_slice-all.ensures.value ∙ c.in_ok-queued.ensures in
     ap (map reason_view) c.in_ok-extend_from_slice.ensures.items ∙ map-append reason_view c.args.reasons.now.items c.as_slice-first.result.now
     ∙ ap (λ (l : List View). map reason_view c.args.reasons.now.items ++ l)
-      (ap (map reason_view) c.as_slice-first.ensures.value ∙ c.in_ok-fresh.ensures ∙ ap (λ (l : List View). filter (is_parted false l) (map reason_view c.as_slice-all.result.now)) around
-        ∙ ap (filter (is_parted false (queued_of kind any (first_of c.args.rules)))) all)
+    (ap (map reason_view) c.as_slice-first.ensures.value ∙ c.in_ok-fresh.ensures ∙ ap (λ (l : List View). filter (is_parted false l) (map reason_view c.as_slice-all.result.now)) around
+    ∙ ap (filter (is_parted false (queued_of kind any (first_of c.args.rules)))) all)
 
 pub returns-clause-late : goal.returns-clause-late
 returns-clause-late c =

@@ -11,4 +11,4 @@ returns c =
     c.in_ok-all.ensures
     ∙ ap (λ (l : List View). filter (is_parted false l) (map reason_view c.as_slice-reasons.result.now)) c.requires
     ∙ ap (filter (is_parted false (own kind any (first_of c.args.rules))))
-      (ap (map reason_view) c.as_slice-reasons.ensures.value ∙ c.in_ok-others.ensures ∙ ap (views (Whole kind) any) c.deny_of-denied.ensures)
+    (ap (map reason_view) c.as_slice-reasons.ensures.value ∙ c.in_ok-others.ensures ∙ ap (views (Whole kind) any) c.deny_of-denied.ensures)

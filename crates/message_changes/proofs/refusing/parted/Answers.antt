@@ -1,4 +1,4 @@
-use Rattle.std.proofs.Common.{◌≡◌, ◌∙◌, ◌++◌, ◌∷◌, [], cond, ap, map, sym, take, List, ℕ}
+use Rattle.std.proofs.Common.{◌∙◌, ◌++◌, ◌∷◌, [], cond, ap, map, sym, take, List}
 use Rattle.std.specs.List.{filter}
 use Rattle.pattern_sets.specs.declared.search.Reason.{Reason}
 use Rattle.message_changes.specs.Reasons.{is_parted, reason_view, View}

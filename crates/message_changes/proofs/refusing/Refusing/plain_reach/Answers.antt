@@ -1,8 +1,7 @@
-use Rattle.std.proofs.Common.{◌≡◌, ◌∙◌, Bool, true, false, if◌then◌else◌, ap, length, map, sym, List, ℕ}
-use Rattle.std.proofs.lemmas.List.{length-map}
+use Rattle.std.proofs.Common.{◌≡◌, ◌∙◌, Bool, true, false, if◌then◌else◌, ap, length, sym, List}
 use Rattle.message_changes.proofs.Covered.{had_is}
-use Rattle.message_changes.specs.Reasons.{denials, fresh, is_had, listed, plain_reach, reason_view, refusals, views, View}
-use Rattle.message_changes.specs.declared.form.Form.TheVariants.{Subjects, Queued}
+use Rattle.message_changes.specs.Reasons.{fresh, is_had, listed, plain_reach, reason_view, views, View}
+use Rattle.message_changes.specs.declared.form.Form.TheVariants.{Subjects}
 use Rattle.message_changes.proofs.refusing.Refusing.plain_reach.Goals as goal
 
 pub returns-then-is_had : goal.returns-then-is_had
