@@ -41,7 +41,8 @@ pub struct Reason<'a> {
 #[derive(Clone, Copy, Debug)]
 pub struct Allowing<'a> {
     pub reason: Reason<'a>,
-    /// How many of the reasons to refuse, from the first on, may be those by which the second judge refuses what this one allows.
+    /// How many of the reasons to refuse, from the first on, may be those by which the second judge refuses what this
+    /// one allows.
     pub reach: usize,
 }
 

@@ -79,8 +79,8 @@ fn is_subject(text: &[u8]) -> bool
     subject.is_some()
 }
 
-/// Returns the text of a subject that a set has and another hasn't, one with the fewest tokens. `None` exactly where the
-/// other has every subject of the set. `NoMemory` where memory could not be had.
+/// Returns the text of a subject that a set has and another hasn't, one with the fewest tokens. `None` exactly where
+/// the other has every subject of the set. `NoMemory` where memory could not be had.
 pub fn difference(
     alloc: Global,
     set: PatternSet<'_>,
