@@ -1,1 +1,8 @@
+pub mod Covered
+pub mod Exact
+pub mod Members
+pub mod Parts
 pub mod Questions
+pub mod Sampled
+pub mod Told
+pub mod Verdicts

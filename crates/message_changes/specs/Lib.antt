@@ -1,1 +1,3 @@
+pub mod Exact
 pub mod Judging
+pub mod Reasons

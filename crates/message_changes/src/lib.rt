@@ -6,6 +6,7 @@
 #![tactic(auto)]
 
 mod changes;
+mod form;
 mod judging;
 mod kind;
 mod reasons;

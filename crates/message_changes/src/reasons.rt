@@ -1,13 +1,20 @@
 //! The search for a question that one user's lists allow and another's refuse.
-ghost use Rattle.std.specs.Prelude.{IfOk};
+ghost use Rattle.std.specs.Prelude.{◌≡◌, ◌++◌, ◌∷◌, [], cond, false, map, true, IfOk, OnOk, is_some};
+ghost use Rattle.std.specs.List.{list_any};
+ghost use Rattle.std.specs.Option.{option_copied};
+ghost use Rattle.subjects.specs.Subject.{is_literal};
 ghost use Rattle.pattern_sets.specs.Judging.{IsFound};
+ghost use Rattle.pattern_sets.specs.Laws.{has_token};
 ghost use Rattle.message_changes.specs.Judging.{differs};
+ghost use Rattle.message_changes.specs.Exact.{AreAllAlike};
+ghost use Rattle.message_changes.specs.Reasons.{all_entries, allowing_view, entries_in, entries_of, first_of, has_list, is_for_queues, is_reason, listed, most_in_queues, parts_of, reason_of, reasons, reasons_by_entries, reasons_without, rules_by, rules_of, second_of, subject_of, with_part, IsRefusing, IsSearch};
 
 use crate::MessageKind;
+use crate::form::Form;
 use crate::judging::TwoLists;
 use crate::refusing::{Refusing, refusing_of};
 use base::{Alike, NoMemory};
-use pattern_sets::{Allowing, Asked, Cover, Reason, Search, fresh_token, most_tokens};
+use pattern_sets::{Allowing, Asked, Reason, Search, fresh_token, most_tokens};
 use permissions::Compiled;
 use policy_doc::permission_doc::{Direction, PermEntry};
 use std::alloc::Global;
@@ -26,57 +33,83 @@ pub(crate) struct TwoRules<'a> {
 }
 
 /// Returns a question of a kind that one user's lists allow and another's refuse: a concrete one with the fewest
-/// tokens, or else, of subscriptions, one that ends in `>` with the fewest. `None` where there is none. `NoMemory`
-/// where memory could not be had.
+/// tokens, or else, of subscriptions, one that ends in `>` with the fewest. `None` exactly where there is none.
+/// `NoMemory` where memory could not be had.
 pub fn first_between(
     alloc: Global,
     kind: MessageKind,
     one: &Compiled,
     other: &Compiled,
 ) -> Result<Option<Asked>, NoMemory>
-    ensures { IfOk result (IsFound (differs kind one.now other.now)) }
+    ensures found { IfOk result (IsFound (differs kind one.now other.now)) }
+    ensures none { IfOk result (λ found. is_some found ≡ false → AreAllAlike kind one.now other.now) }
 {
-    let Ok(any) = Pattern::parse(alloc, b">") else {
-        return Err(NoMemory);
-    };
-    let rules = TwoRules {
-        kind,
-        one: kind.rules_of(one),
-        other: kind.rules_of(other),
-        any: &any,
-    };
-    if rules.one.is_some() && are_alike(rules.one, rules.other) {
+    let own = kind.rules_of(one);
+    let others = kind.rules_of(other);
+    if are_alike(own, others) {
         return Ok(None);
     }
-    let token = token_of(alloc, rules)?;
+    let any = any_pattern(alloc)?;
+    let rules = TwoRules {
+        kind,
+        one: own,
+        other: others,
+        any: &any,
+    };
     let lists = TwoLists { kind, one, other };
-    first_by(alloc, rules, token.as_slice(), &lists)
+    let found = first_by(alloc, rules, &lists)?;
+    Ok(found)
 }
 
-/// Returns a token that no entry has.
-fn token_of(alloc: Global, rules: TwoRules<'_>) -> Result<Vec<u8>, NoMemory> {
-    let (mut all, queues) = patterns_of(alloc, rules)?;
-    all.extend_from_slice(queues.as_slice())?;
-    let token = fresh_token(alloc, all.as_slice())?;
-    Ok(token)
+/// Returns the pattern `>`.
+fn any_pattern(alloc: Global) -> Result<Pattern, NoMemory>
+    ensures { IfOk result (λ any. any ≡ (62 ∷ []) ∷ []) }
+{
+    match Pattern::parse(alloc, b">") {
+        Ok(any) => Ok(any),
+        Err(_) => Err(NoMemory),
+    }
 }
 
 /// Returns the first sample that the lists judge so.
-fn first_by<'a>(
+fn first_by(
     alloc: Global,
-    rules: TwoRules<'a>,
-    token: &'a [u8],
+    rules: TwoRules<'_>,
     lists: &TwoLists<'_>,
 ) -> Result<Option<Asked>, NoMemory>
-    ensures { IfOk result (IsFound (differs lists.now.kind lists.now.one.now lists.now.other.now)) }
+    requires kind { rules.kind ≡ lists.now.kind }
+    requires one { first_of rules ≡ rules_of lists.now.kind lists.now.one.now }
+    requires other { second_of rules ≡ rules_of lists.now.kind lists.now.other.now }
+    requires any { rules.any.now ≡ (62 ∷ []) ∷ [] }
+    ensures found { IfOk result (IsFound (differs lists.now.kind lists.now.one.now lists.now.other.now)) }
+    ensures none { IfOk result (λ found. is_some found ≡ false → AreAllAlike lists.now.kind lists.now.one.now lists.now.other.now) }
 {
-    let search = search_of(alloc, rules, token)?;
+    let token = token_of(alloc, rules)?;
+    let fresh = token.as_slice();
+    let search = search_of(alloc, rules, fresh)?;
     let found = search.first(alloc, false, lists)?;
-    if found.is_some() || !rules.kind.has_tails() {
+    if found.is_some() {
         return Ok(found);
     }
-    let found = search.first(alloc, true, lists)?;
-    Ok(found)
+    if !rules.kind.has_tails() {
+        return Ok(found);
+    }
+    let tailed = search.first(alloc, true, lists)?;
+    Ok(tailed)
+}
+
+/// Returns a token that no entry has.
+fn token_of(alloc: Global, rules: TwoRules<'_>) -> Result<Vec<u8>, NoMemory>
+    ensures literal { IfOk result (λ token. is_literal token.items ≡ true) }
+    ensures fresh { IfOk result (λ token. list_any (has_token token.items) (map subject_of (all_entries (first_of rules.entry) (second_of rules.entry)) ++ parts_of (all_entries (first_of rules.entry) (second_of rules.entry))) ≡ false) }
+{
+    let mut all = subjects_of(alloc, rules)?;
+    let queues = queues_of(alloc, rules)?;
+    let parts = queues.as_slice();
+    all.extend_from_slice(parts)?;
+    let patterns = all.as_slice();
+    let token = fresh_token(alloc, patterns)?;
+    Ok(token)
 }
 
 /// Returns the search for a question that the first lists allow and the second refuse.
@@ -84,69 +117,138 @@ fn search_of<'a>(
     alloc: Global,
     rules: TwoRules<'a>,
     token: &'a [u8],
-) -> Result<Search<'a>, NoMemory> {
-    let (subjects, queues) = patterns_of(alloc, rules)?;
+) -> Result<Search<'a>, NoMemory>
+    requires literal { is_literal token.now ≡ true }
+    requires fresh { list_any (has_token token.now) (map subject_of (all_entries (first_of rules) (second_of rules)) ++ parts_of (all_entries (first_of rules) (second_of rules))) ≡ false }
+    ensures { IfOk result (IsSearch rules.entry.kind rules.entry.any.now (first_of rules.entry) (second_of rules.entry)) }
+{
     let refusing = refusing_of(alloc, rules)?;
     let allowing = allowing_of(alloc, rules, &refusing)?;
-    let most_of_queues = if rules.kind.has_queue() {
-        Some(most_tokens(queues.as_slice()))
-    } else {
-        None
-    };
-    Ok(Search {
+    let subjects = subjects_of(alloc, rules)?;
+    let patterns = subjects.as_slice();
+    let most = most_tokens(patterns);
+    let most_of_queues = most_of_queues(alloc, rules)?;
+    let search = Search {
         allowing,
         refusing: refusing.reasons,
         token,
-        most: most_tokens(subjects.as_slice()),
+        most,
         most_of_queues,
-    })
+    };
+    Ok(search)
+}
+
+/// Returns how many tokens of a queue are enough to be asked about, where a queue is.
+fn most_of_queues(alloc: Global, rules: TwoRules<'_>) -> Result<Option<usize>, NoMemory>
+    ensures { IfOk result (λ most. most ≡ most_in_queues rules.entry.kind (first_of rules.entry) (second_of rules.entry)) }
+{
+    if !rules.kind.has_queue() {
+        return Ok(None);
+    }
+    let queues = queues_of(alloc, rules)?;
+    let patterns = queues.as_slice();
+    let most = most_tokens(patterns);
+    Ok(Some(most))
 }
 
 /// Whether two users' lists are the same.
-fn are_alike(one: Option<&Direction>, other: Option<&Direction>) -> bool {
-    match (one, other) {
-        (Some(one), Some(other)) => one.is_like(other),
-        (Some(_), None) => false,
-        (None, Some(_)) => false,
-        (None, None) => true,
+fn are_alike(one: Option<&Direction>, other: Option<&Direction>) -> bool
+    ensures { result ≡ true → rules_by (option_copied one.entry) ≡ rules_by (option_copied other.entry) }
+{
+    match one {
+        None => other.is_none(),
+        Some(one) => match other {
+            None => false,
+            Some(other) => one.is_like(other),
+        },
     }
 }
 
-/// Returns the patterns of all entries, and those of their queue parts.
-fn patterns_of<'a>(
-    alloc: Global,
-    rules: TwoRules<'a>,
-) -> Result<(Vec<&'a Pattern>, Vec<&'a Pattern>), NoMemory> {
-    let mut subjects = Vec::new(alloc);
-    let mut queues = Vec::new(alloc);
-    for entries in [
-        allow_of(rules.one),
-        deny_of(rules.one),
-        allow_of(rules.other),
-        deny_of(rules.other),
-    ] {
-        add_patterns(&mut subjects, &mut queues, entries)?;
-    }
-    Ok((subjects, queues))
+/// Returns the patterns of all entries.
+fn subjects_of<'a>(alloc: Global, rules: TwoRules<'a>) -> Result<Vec<&'a Pattern>, NoMemory>
+    ensures { IfOk result (λ all. map (λ p. p.now) all.items ≡ map subject_of (all_entries (first_of rules.entry) (second_of rules.entry))) }
+{
+    let mut all = Vec::new(alloc);
+    add_subjects_of(&mut all, rules.one)?;
+    add_subjects_of(&mut all, rules.other)?;
+    Ok(all)
 }
 
-/// Appends the patterns of entries, and those of their queue parts.
-fn add_patterns<'a>(
-    subjects: &mut Vec<&'a Pattern>,
-    queues: &mut Vec<&'a Pattern>,
-    entries: &'a [PermEntry],
-) -> Result<(), NoMemory> {
+/// Returns the queue parts of all entries.
+fn queues_of<'a>(alloc: Global, rules: TwoRules<'a>) -> Result<Vec<&'a Pattern>, NoMemory>
+    ensures { IfOk result (λ all. map (λ p. p.now) all.items ≡ parts_of (all_entries (first_of rules.entry) (second_of rules.entry))) }
+{
+    let mut all = Vec::new(alloc);
+    add_queues_of(&mut all, rules.one)?;
+    add_queues_of(&mut all, rules.other)?;
+    Ok(all)
+}
+
+/// Appends the patterns of a direction's entries.
+fn add_subjects_of<'a>(
+    all: &mut Vec<&'a Pattern>,
+    rules: Option<&'a Direction>,
+) -> Result<(), NoMemory>
+    ensures { OnOk result (map (λ p. p.now) all.new.items ≡ map (λ p. p.now) all.old.items ++ map subject_of (entries_in (rules_by (option_copied rules.entry)))) }
+{
+    let allow = allow_of(rules);
+    add_subjects(all, allow)?;
+    let deny = deny_of(rules);
+    add_subjects(all, deny)?;
+    Ok(())
+}
+
+/// Appends the queue parts of a direction's entries.
+fn add_queues_of<'a>(
+    all: &mut Vec<&'a Pattern>,
+    rules: Option<&'a Direction>,
+) -> Result<(), NoMemory>
+    ensures { OnOk result (map (λ p. p.now) all.new.items ≡ map (λ p. p.now) all.old.items ++ parts_of (entries_in (rules_by (option_copied rules.entry)))) }
+{
+    let allow = allow_of(rules);
+    add_queues(all, allow)?;
+    let deny = deny_of(rules);
+    add_queues(all, deny)?;
+    Ok(())
+}
+
+/// Appends the patterns of entries.
+fn add_subjects<'a>(all: &mut Vec<&'a Pattern>, entries: &'a [PermEntry]) -> Result<(), NoMemory>
+    ensures { OnOk result (map (λ p. p.now) all.new.items ≡ map (λ p. p.now) all.old.items ++ map subject_of entries.now) }
+{
     for entry in entries {
-        subjects.push(&entry.subject)?;
-        if let Some(queue) = &entry.queue {
-            queues.push(queue)?;
-        }
+        all.push(&entry.subject)?;
     }
     Ok(())
 }
 
+/// Appends the queue parts of entries.
+fn add_queues<'a>(all: &mut Vec<&'a Pattern>, entries: &'a [PermEntry]) -> Result<(), NoMemory>
+    ensures { OnOk result (map (λ p. p.now) all.new.items ≡ map (λ p. p.now) all.old.items ++ parts_of entries.now) }
+{
+    for entry in entries {
+        add_queue(all, entry)?;
+    }
+    Ok(())
+}
+
+/// Appends an entry's queue part, if it has one.
+fn add_queue<'a>(all: &mut Vec<&'a Pattern>, entry: &'a PermEntry) -> Result<(), NoMemory>
+    ensures { OnOk result (map (λ p. p.now) all.new.items ≡ map (λ p. p.now) all.old.items ++ with_part entry.now.queue []) }
+{
+    match &entry.queue {
+        None => Ok(()),
+        Some(queue) => {
+            all.push(queue)?;
+            Ok(())
+        }
+    }
+}
+
 /// Returns the allow entries of a direction.
-pub(crate) fn allow_of(rules: Option<&Direction>) -> &[PermEntry] {
+pub(crate) fn allow_of(rules: Option<&Direction>) -> &[PermEntry]
+    ensures { result.now ≡ entries_of (rules_by (option_copied rules.entry)).allow }
+{
     match rules {
         None => &[],
         Some(rules) => match &rules.allow {
@@ -157,7 +259,9 @@ pub(crate) fn allow_of(rules: Option<&Direction>) -> &[PermEntry] {
 }
 
 /// Returns the deny entries of a direction.
-pub(crate) fn deny_of(rules: Option<&Direction>) -> &[PermEntry] {
+pub(crate) fn deny_of(rules: Option<&Direction>) -> &[PermEntry]
+    ensures { result.now ≡ (rules_by (option_copied rules.entry)).deny }
+{
     match rules {
         None => &[],
         Some(rules) => rules.deny.as_slice(),
@@ -165,26 +269,23 @@ pub(crate) fn deny_of(rules: Option<&Direction>) -> &[PermEntry] {
 }
 
 /// Whether allow entries decide.
-pub(crate) fn has_allow_list(kind: MessageKind, rules: Option<&Direction>) -> bool {
+pub(crate) fn has_allow_list(kind: MessageKind, rules: Option<&Direction>) -> bool
+    ensures { result ≡ has_list kind (rules_by (option_copied rules.entry)) }
+{
     match rules {
         None => false,
         Some(rules) => kind.has_allow() && rules.allow.is_some(),
     }
 }
 
-/// Returns an entry as a reason. Where no queue is asked about, it is one of each queue.
-pub(crate) fn reason_of<'a>(
-    kind: MessageKind,
-    entry: &'a PermEntry,
-    any: &'a Pattern,
-) -> Reason<'a> {
-    let queue = match &entry.queue {
-        Some(queue) => { if kind.has_queue() { queue } else { any } }
-        None => any,
-    };
-    Reason {
-        subject: &entry.subject,
-        queue,
+/// Returns the allow entries that decide.
+pub(crate) fn listed_of(kind: MessageKind, rules: Option<&Direction>) -> &[PermEntry]
+    ensures { result.now ≡ listed kind (rules_by (option_copied rules.entry)) }
+{
+    if has_allow_list(kind, rules) {
+        allow_of(rules)
+    } else {
+        &[]
     }
 }
 
@@ -193,59 +294,109 @@ fn allowing_of<'a>(
     alloc: Global,
     rules: TwoRules<'a>,
     refusing: &Refusing<'a>,
-) -> Result<Vec<Allowing<'a>>, NoMemory> {
-    let mut all = Vec::new(alloc);
-    if !has_allow_list(rules.kind, rules.one) {
-        let reason = Reason {
-            subject: rules.any,
-            queue: rules.any,
-        };
-        add_allowing(&mut all, reason, false, refusing)?;
-        return Ok(all);
+) -> Result<Vec<Allowing<'a>>, NoMemory>
+    requires { IsRefusing rules.kind rules.any.now (first_of rules) (second_of rules) refusing.now }
+    ensures { IfOk result (λ all. map allowing_view all.items ≡ reasons rules.entry.kind rules.entry.any.now (first_of rules.entry) (second_of rules.entry)) }
+{
+    if has_allow_list(rules.kind, rules.one) {
+        let all = by_entries(alloc, rules, allow_of(rules.one), refusing)?;
+        Ok(all)
+    } else {
+        let all = without_entries(alloc, rules, refusing)?;
+        Ok(all)
     }
-    for entry in allow_of(rules.one) {
-        if rules.kind.looks_at(entry) {
-            let reason = reason_of(rules.kind, entry, rules.any);
-            let is_queued = rules.kind.has_queue() && entry.queue.is_some();
-            add_allowing(&mut all, reason, is_queued, refusing)?;
-        }
+}
+
+/// Returns the allow entries that are looked at as reasons, but those that the same lists refuse whole.
+fn by_entries<'a>(
+    alloc: Global,
+    rules: TwoRules<'a>,
+    entries: &'a [PermEntry],
+    refusing: &Refusing<'a>,
+) -> Result<Vec<Allowing<'a>>, NoMemory>
+    requires { IsRefusing rules.kind rules.any.now (first_of rules) (second_of rules) refusing.now }
+    ensures { IfOk result (λ all. map allowing_view all.items ≡ reasons_by_entries rules.entry.kind rules.entry.any.now (first_of rules.entry) (second_of rules.entry) entries.now) }
+{
+    let mut all = Vec::new(alloc);
+    for entry in entries {
+        add_if_reason(&mut all, rules, entry, refusing)?;
     }
     Ok(all)
 }
 
-/// Appends a reason with its reach, unless the lists that it is of refuse it whole.
-fn add_allowing<'a>(
+/// Appends an allow entry as a reason, if it is looked at and no denial of its lists has all of it.
+fn add_if_reason<'a>(
     all: &mut Vec<Allowing<'a>>,
-    reason: Reason<'a>,
-    is_queued: bool,
+    rules: TwoRules<'a>,
+    entry: &'a PermEntry,
     refusing: &Refusing<'a>,
-) -> Result<(), NoMemory> {
-    if refusing.own.has(&reason) {
+) -> Result<(), NoMemory>
+    requires { IsRefusing rules.kind rules.any.now (first_of rules) (second_of rules) refusing.now }
+    ensures { OnOk result (map allowing_view all.new.items ≡ map allowing_view all.old.items
+        ++ cond (is_reason rules.entry.kind rules.entry.any.now (first_of rules.entry) entry.now) (reason_of rules.entry.kind rules.entry.any.now (first_of rules.entry) (second_of rules.entry) entry.now ∷ []) []) }
+{
+    if !is_reason(rules, entry, refusing) {
         return Ok(());
     }
-    let reach = refusing.reach_of(&reason, is_queued);
-    all.push(Allowing { reason, reach })?;
+    let reason = allowing_by(rules, entry, refusing);
+    all.push(reason)?;
     Ok(())
 }
 
-/// Returns the reasons of deny entries.
-pub(crate) fn denials_of<'a>(
-    alloc: Global,
-    kind: MessageKind,
-    entries: &'a [PermEntry],
-    any: &'a Pattern,
-) -> Result<Vec<Reason<'a>>, NoMemory> {
-    let mut all = Vec::new(alloc);
-    for entry in entries {
-        if kind.looks_at(entry) {
-            all.push(reason_of(kind, entry, any))?;
-        }
-    }
-    Ok(all)
+/// Whether an allow entry is looked at, and no denial of its lists has all of it.
+fn is_reason<'a>(rules: TwoRules<'a>, entry: &'a PermEntry, refusing: &Refusing<'a>) -> bool
+    requires { IsRefusing rules.kind rules.any.now (first_of rules) (second_of rules) refusing.now }
+    ensures { result ≡ is_reason rules.entry.kind rules.entry.any.now (first_of rules.entry) entry.now }
+{
+    let form = Form::Whole(rules.kind);
+    let reason = form.reason(entry, rules.any);
+    let is_refused = refusing.own.has(&reason);
+    let is_looked_at = rules.kind.looks_at(entry);
+    is_looked_at && !is_refused
 }
 
-/// Returns the index of reasons.
-pub(crate) fn cover_of<'a>(alloc: Global, reasons: Vec<Reason<'a>>) -> Result<Cover<'a>, NoMemory> {
-    let cover = Cover::of(alloc, reasons)?;
-    Ok(cover)
+/// Returns an allow entry as a reason, with its reach.
+fn allowing_by<'a>(
+    rules: TwoRules<'a>,
+    entry: &'a PermEntry,
+    refusing: &Refusing<'a>,
+) -> Allowing<'a>
+    requires { IsRefusing rules.kind rules.any.now (first_of rules) (second_of rules) refusing.now }
+    ensures { allowing_view result ≡ reason_of rules.entry.kind rules.entry.any.now (first_of rules.entry) (second_of rules.entry) entry.now }
+{
+    let form = Form::Whole(rules.kind);
+    let reason = form.reason(entry, rules.any);
+    let is_queued = is_for_queues(rules.kind, entry);
+    let reach = refusing.reach_of(&reason, is_queued);
+    Allowing { reason, reach }
+}
+
+/// Whether an entry is for queues, and a queue is asked about.
+fn is_for_queues(kind: MessageKind, entry: &PermEntry) -> bool
+    ensures { result ≡ is_for_queues kind entry.now }
+{
+    kind.has_queue() && entry.queue.is_some()
+}
+
+/// Returns each question as a reason, unless a denial of the same lists has them all.
+fn without_entries<'a>(
+    alloc: Global,
+    rules: TwoRules<'a>,
+    refusing: &Refusing<'a>,
+) -> Result<Vec<Allowing<'a>>, NoMemory>
+    requires { IsRefusing rules.kind rules.any.now (first_of rules) (second_of rules) refusing.now }
+    ensures { IfOk result (λ all. map allowing_view all.items ≡ reasons_without rules.entry.kind rules.entry.any.now (first_of rules.entry) (second_of rules.entry)) }
+{
+    let mut all = Vec::new(alloc);
+    let reason = Reason {
+        subject: rules.any,
+        queue: rules.any,
+    };
+    let is_refused = refusing.own.has(&reason);
+    if is_refused {
+        return Ok(all);
+    }
+    let reach = refusing.reach_of(&reason, false);
+    all.push(Allowing { reason, reach })?;
+    Ok(all)
 }

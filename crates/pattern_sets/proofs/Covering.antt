@@ -1,9 +1,9 @@
 -- Reasons found by the hashes of their subjects.
-use Rattle.std.proofs.Common.{◌≡◌, ◌∙◌, ◌<◌, ◌≤◌, ℕ, Bool, true, false, refl, List, [], length, map, ap, sym, subst, Option, Some, None, slice_index_or, arith}
+use Rattle.std.proofs.Common.{◌≡◌, ◌∙◌, ◌<◌, ◌≤◌, ℕ, List, [], length, map, ap, sym, subst, Option, Some, None, slice_index_or, arith}
 use Rattle.std.specs.Option.{is_some}
 use Rattle.std.proofs.lemmas.Bool.{and_parts}
 use Rattle.std.proofs.lemmas.List.{get_or-map, get_or_default, length-map}
-use Rattle.subjects.specs.Subject.{Token, covers, tokens_of, text_of, IsPattern}
+use Rattle.subjects.specs.Subject.{covers, tokens_of, text_of, IsPattern}
 use Rattle.subjects.proofs.Text.{pattern_again}
 use Rattle.subjects.proofs.pattern_groups.Literal.{covers-hash}
 use Rattle.subjects.specs.pattern_groups.Links.{at, IsLeast}

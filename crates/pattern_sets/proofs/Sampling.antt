@@ -1,13 +1,13 @@
 -- The sample of two patterns' parts stands for what both cover.
-use Rattle.std.proofs.Common.{◌≡◌, ◌∙◌, ◌<◌, ◌⊎◌, inl, inr, Bool, true, false, not, ◌&&◌, ◌||◌, if◌then◌else◌, ℕ, zero, suc, List, [], ◌∷◌, length, take, Option, Some, None, ap, refl, sym, subst, arith, leb}
+use Rattle.std.proofs.Common.{◌≡◌, ◌∙◌, ◌⊎◌, inl, inr, Bool, true, false, not, ◌&&◌, ◌||◌, if◌then◌else◌, ℕ, zero, suc, List, [], ◌∷◌, length, Option, Some, None, ap, refl, sym, subst, arith, leb}
 use Rattle.std.specs.Bool.{⊤}
-use Rattle.std.specs.List.{list_all, list_any}
+use Rattle.std.specs.List.{list_all}
 use Rattle.std.specs.Option.{option_map}
 use Rattle.std.proofs.lemmas.Bool.{and_parts, or_parts}
-use Rattle.subjects.specs.Subject.{Token, covers, is_concrete, is_literal, is_pattern, is_star, is_subject, is_tail, is_token, is_wildcard, same_token, tail_is_last, IsPattern, IsSubject}
+use Rattle.subjects.specs.Subject.{Token, covers, is_concrete, is_literal, is_star, is_tail, is_token, is_wildcard, same_token, tail_is_last, IsPattern, IsSubject}
 use Rattle.subjects.proofs.Same.{equal_from_same, same_token-itself}
-use Rattle.pattern_sets.specs.Samples.{agree, either, either_each, filled, meet, part, sample, star, tail}
-use Rattle.pattern_sets.specs.Laws.{has_tail, has_token, sample_of, StandsFor, SamplesSuffice, LengthsSuffice}
+use Rattle.pattern_sets.specs.Samples.{agree, either, either_each, filled, meet, part, star, tail}
+use Rattle.pattern_sets.specs.Laws.{has_tail, has_token, SamplesSuffice, LengthsSuffice}
 
 -- ---- tokens
 
@@ -90,7 +90,7 @@ sample_law x (e ∷ es) (w ∷ ws) (u ∷ us) h b c =
 
 -- ---- a pattern's part lies over what it covers
 
-cover_parts : (qt pt st sm all : Bool) → (qt || (not pt && (st || sm) && all)) ≡ true → qt ≡ false → (pt ≡ false) × ((st || sm) ≡ true) × (all ≡ true)
+pub cover_parts : (qt pt st sm all : Bool) → (qt || (not pt && (st || sm) && all)) ≡ true → qt ≡ false → (pt ≡ false) × ((st || sm) ≡ true) × (all ≡ true)
 cover_parts true pt st sm all e f = absurd (cc)
 cover_parts false true st sm all e f = absurd (cc)
 cover_parts false false true sm true e f = (refl, refl, refl)
@@ -309,7 +309,7 @@ blur_subject x (w ∷ ws) (u ∷ us) l b h =
 
 -- ---- the laws
 
-last_in_pattern : (u : List Token) → IsPattern u → tail_is_last u ≡ true
+pub last_in_pattern : (u : List Token) → IsPattern u → tail_is_last u ≡ true
 last_in_pattern [] h = refl
 last_in_pattern (u ∷ us) h =
     let tests = and_parts (list_all is_token (u ∷ us) && tail_is_last (u ∷ us)) (leb (length (u ∷ us)) 512) h in

@@ -1,7 +1,7 @@
 -- Reasons, and which of them has all questions of another.
 use Rattle.std.specs.Prelude.{◌≡◌, ◌<◌, ◌&&◌, ⊤, ℕ, Bool, true, false, List, length, not, Option, Some, None}
 use Rattle.std.specs.List.{list_any, slice_index_or}
-use Rattle.subjects.specs.Subject.{Token, covers, in_set, tokens_of}
+use Rattle.subjects.specs.Subject.{Token, covers, in_set, tokens_of, IsSubject}
 use Rattle.pattern_sets.specs.declared.search.Asked.{Asked}
 use Rattle.pattern_sets.specs.declared.search.Reason.{Reason}
 
@@ -37,3 +37,16 @@ is_member of patterns less subject = list_any (λ p. in_set (of p) subject) patt
 -- a subject of one set that isn't one of another
 abbrev pub is_between : {P : Type 0} → (P → List Token) → List P → List P → List P → List P → List Token → Bool
 is_between of patterns less others others_less asked = is_member of patterns less asked && not (is_member of others others_less asked)
+
+-- the text of a subject that the one set has and the other hasn't, with the fewest tokens; or the other has every subject of the one
+abbrev pub IsDifference : {P : Type 0} → (P → List Token) → List P → List P → List P → List P → Option (List ℕ) → Type 0
+IsDifference of patterns less others others_less None = (s : List Token) → IsSubject s → is_between of patterns less others others_less s ≡ false
+IsDifference of patterns less others others_less (Some text) =
+    IsSubject (tokens_of text)
+    × (is_between of patterns less others others_less (tokens_of text) ≡ true)
+    × ((s : List Token) → IsSubject s → length s < length (tokens_of text) → is_between of patterns less others others_less s ≡ false)
+
+-- whether the other set has every subject of the one
+abbrev pub HasNone : {P : Type 0} → (P → List Token) → List P → List P → List P → List P → Bool → Type 0
+HasNone of patterns less others others_less true = (s : List Token) → IsSubject s → is_between of patterns less others others_less s ≡ false
+HasNone of patterns less others others_less false = (s : List Token) × IsSubject s × (is_between of patterns less others others_less s ≡ true)

@@ -1,5 +1,5 @@
 -- Parts of patterns, what two of them have in common, and its sample (docs/GUARANTEE.md, "Comparing sets of subjects").
-use Rattle.std.specs.Prelude.{◌||◌, ◌∷◌, ℕ, zero, suc, Bool, true, false, List, [], Option, Some, None, if◌then◌else◌}
+use Rattle.std.specs.Prelude.{◌||◌, ◌∷◌, ℕ, zero, suc, Bool, List, [], Option, Some, None, if◌then◌else◌}
 use Rattle.std.specs.Option.{option_map}
 use Rattle.std.specs.Cmp.Lexicographic.{pointwise}
 use Rattle.subjects.specs.Subject.{Token, is_star, is_tail, same_token}

@@ -1,24 +1,60 @@
 //! A token that no pattern of a list has.
+ghost use Rattle.std.specs.Prelude.{◌≡◌, ◌+◌, ◌≤◌, false, length, map, replicate, true, IfOk};
+ghost use Rattle.std.specs.List.{list_any};
+ghost use Rattle.subjects.specs.Subject.{is_literal, same_token};
+ghost use Rattle.pattern_sets.specs.Laws.{has_token};
+ghost use Rattle.pattern_sets.specs.Longest.{longest_text};
+
 use base::NoMemory;
 use std::alloc::Global;
 use subjects::Pattern;
 
-/// The tokens that are tried first.
-const SHORT: [&[u8]; 7] = [b"x", b"y", b"z", b"x0", b"x1", b"x2", b"x3"];
+/// How many tokens are tried first.
+const SHORT: usize = 7;
 
-/// Returns a literal token that none of these patterns has: the first of `x y z x0 x1 x2 x3` that is none of theirs, or else a run
-/// of `x` that is longer than each of theirs. `NoMemory` where memory could not be had.
-pub fn fresh_token(alloc: Global, patterns: &[&Pattern]) -> Result<Vec<u8>, NoMemory> {
-    for token in SHORT {
+/// Returns a literal token that none of these patterns has: the first of `x y z x0 x1 x2 x3` that is none of theirs, or
+/// else a run of `x` that is longer than each of theirs. `NoMemory` where memory could not be had.
+pub fn fresh_token(alloc: Global, patterns: &[&Pattern]) -> Result<Vec<u8>, NoMemory>
+    ensures literal { IfOk result (λ token. is_literal token.items ≡ true) }
+    ensures fresh { IfOk result (λ token. list_any (λ p. has_token token.items p.now) patterns.now ≡ false) }
+{
+    for number in 0..SHORT {
+        let token = short_token(number);
         if !is_token_of_any(token, patterns) {
-            return Ok(Vec::from_slice(alloc, token)?);
+            let fresh = Vec::from_slice(alloc, token)?;
+            return Ok(fresh);
         }
     }
-    run_of(alloc, longest_in(patterns))
+    long_token(alloc, patterns)
 }
 
-/// Returns a run of `x` that is longer than each token of these patterns, so that none begins with it. `NoMemory` where memory
-/// could not be had.
+/// Returns one of the tokens that are tried first.
+fn short_token(number: usize) -> &'static [u8]
+    ensures { is_literal result.now ≡ true }
+{
+    match number {
+        0 => b"x",
+        1 => b"y",
+        2 => b"z",
+        3 => b"x0",
+        4 => b"x1",
+        5 => b"x2",
+        _ => b"x3",
+    }
+}
+
+/// Returns a run of `x` that is longer than each token of these patterns.
+fn long_token(alloc: Global, patterns: &[&Pattern]) -> Result<Vec<u8>, NoMemory>
+    ensures literal { IfOk result (λ token. is_literal token.items ≡ true) }
+    ensures fresh { IfOk result (λ token. list_any (λ p. has_token token.items p.now) patterns.now ≡ false) }
+{
+    let bytes = longest_in(patterns);
+    let run = run_of(alloc, bytes)?;
+    Ok(run)
+}
+
+/// Returns a run of `x` that is longer than each token of these patterns, so that none begins with it. `NoMemory` where
+/// memory could not be had.
 pub fn fresh_prefix(alloc: Global, patterns: &[&Pattern]) -> Result<Vec<u8>, NoMemory> {
     let mut prefix = Vec::from_slice(alloc, b"x")?;
     for _ in 0..longest_in(patterns) {
@@ -47,23 +83,36 @@ fn is_front_in(front: &[u8], pattern: &Pattern) -> bool {
 }
 
 /// Whether a token is one of some pattern's.
-fn is_token_of_any(token: &[u8], patterns: &[&Pattern]) -> bool {
+fn is_token_of_any(token: &[u8], patterns: &[&Pattern]) -> bool
+    ensures { result ≡ list_any (λ p. has_token token.now p.now) patterns.now }
+{
     patterns.iter().any(|pattern| is_token_of(token, pattern))
 }
 
 /// Whether a token is one of a pattern's.
-fn is_token_of(token: &[u8], pattern: &Pattern) -> bool {
+fn is_token_of(token: &[u8], pattern: &Pattern) -> bool
+    ensures { result ≡ has_token token.now pattern.now }
+{
     let mut tokens = pattern.tokens();
     while let Some(one) = tokens.next_piece() {
-        if one == token {
+        if are_same(one, token) {
             return true;
         }
     }
     false
 }
 
+/// Whether two tokens have the same bytes.
+fn are_same(one: &[u8], other: &[u8]) -> bool
+    ensures { result ≡ same_token one.now other.now }
+{
+    one == other
+}
+
 /// How many bytes the longest of these patterns has. No token has more.
-fn longest_in(patterns: &[&Pattern]) -> usize {
+fn longest_in(patterns: &[&Pattern]) -> usize
+    ensures { result ≡ longest_text (map (λ p. p.now) patterns.now) }
+{
     let mut most = 0;
     for pattern in patterns {
         most = most.max(pattern.bytes().len());
@@ -72,9 +121,11 @@ fn longest_in(patterns: &[&Pattern]) -> usize {
 }
 
 /// Returns a run of `x` with one byte more than so many.
-fn run_of(alloc: Global, bytes: usize) -> Result<Vec<u8>, NoMemory> {
+fn run_of(alloc: Global, bytes: usize) -> Result<Vec<u8>, NoMemory>
+    ensures { IfOk result (λ run. run.items ≡ replicate (bytes + 1) 120) }
+{
     let mut run = Vec::from_slice(alloc, b"x")?;
-    for _ in 0..bytes {
+    while run.len() <= bytes {
         run.push(b'x')?;
     }
     Ok(run)

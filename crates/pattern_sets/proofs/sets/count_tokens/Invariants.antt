@@ -1,6 +1,9 @@
--- fewer tokens are left each time
-use Rattle.std.proofs.Common.{length}
+-- those counted and those left are all, and fewer are left each time
+use Rattle.std.proofs.Common.{◌≡◌, ◌+◌, ◌≤◌, length}
 use Rattle.pattern_sets.proofs.sets.count_tokens.Given as goal
 
-abbrev pub decreases-loop-tokens : goal.decreases-loop-tokens
-decreases-loop-tokens l = length l.tokens
+abbrev pub invariant-loop-token : goal.invariant-loop-token
+invariant-loop-token l = (l.count + length l.rest ≡ length l.pattern) × (length l.pattern ≤ 512)
+
+abbrev pub decreases-loop-token : goal.decreases-loop-token
+decreases-loop-token l = length l.rest
