@@ -7,7 +7,7 @@ use Rattle.server_socket.specs.Queues.{IsPut}
 use Rattle.server_socket.specs.Fresh.{is_fresh}
 use Rattle.server_socket.specs.declared.connection.Connection.{Connection}
 use Rattle.server_socket.specs.declared.connection.Queued.{Queued}
-use Rattle.server_state.specs.pacing.Due.{barred, may_wait}
+use Rattle.server_socket.specs.pacing.Due.{barred, may_wait}
 use Rattle.server_connections.specs.declared.connections.Connections.{Connections}
 use Rattle.server_connections.specs.declared.fresh.Fresh.{Fresh}
 use Rattle.server_connections.specs.declared.lingering.Lingering.{Lingering}

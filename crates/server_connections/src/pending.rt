@@ -1,7 +1,6 @@
 // What a worker's mail says about its connections.
 use crate::connections::Connections;
-use server_state::mail::Mail;
-use server_state::pacing::Pending;
+use server_state::mail::{Mail, Pending};
 
 impl Connections {
     /// Follows a worker's mail. Where an entry of it was lost, this walks over all connections.

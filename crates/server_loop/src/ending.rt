@@ -2,9 +2,9 @@
 use crate::worker::Worker;
 use mio::Events;
 use server_log::Slowness;
+use server_socket::pacing::Slice;
 use server_socket::turns::Turn;
 use server_state::mail::millis;
-use server_state::pacing::Slice;
 use session_conn::Words;
 use std::sync::Wait;
 use std::time::{Clock, Duration};

@@ -3,7 +3,7 @@ use crate::accepting::LISTENER;
 use crate::worker::{WAKER, Worker};
 use mio::Events;
 use mio::event::Event;
-use server_state::pacing::Slice;
+use server_socket::pacing::Slice;
 use session_conn::Words;
 use std::io;
 use std::sync::Wait;

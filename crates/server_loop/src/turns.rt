@@ -2,9 +2,9 @@
 use crate::worker::Worker;
 use server_connections::Reads;
 use server_log::What;
+use server_socket::pacing::{Slice, batch};
 use server_socket::turns::Turn;
 use server_socket::{ConnectionTurn, is_fresh};
-use server_state::pacing::{Slice, batch};
 use server_stats::Counting;
 use session_conn::{Stall, Words};
 use std::mem;

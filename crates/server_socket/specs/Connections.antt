@@ -1,8 +1,8 @@
 -- A worker's connection: what it may do.
 use Rattle.std.specs.Prelude.{ℕ, ◌&&◌, ◌||◌, Bool, true, false, not, Option, None, Some, is_some}
 use Rattle.server_socket.specs.declared.turns.turn.Turn.TheVariants.{Done, Failed}
-use Rattle.server_state.specs.pacing.Due as due
-use Rattle.server_state.specs.pacing.Due.{is_nothing, passed}
+use Rattle.server_socket.specs.pacing.Due as due
+use Rattle.server_socket.specs.pacing.Due.{is_nothing, passed}
 use Rattle.session_plan.specs.Replies.{is_closed, is_connected}
 use Rattle.server_socket.specs.Blocked.{end_of, is_past}
 use Rattle.server_socket.specs.declared.connection.Connection.{Connection}

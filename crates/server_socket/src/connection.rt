@@ -1,11 +1,11 @@
 ghost use Rattle.std.specs.Prelude.{◌≡◌, ◌≢◌};
 
 use crate::blocked::Blocked;
+use crate::pacing::Due;
 use crate::turns::Client;
 use mio::net::TcpStream;
 use mio::{Interest, Registry, Token};
 use server_log::Party;
-use server_state::pacing::Due;
 
 /// The marks of a connection: which of its worker's queues it is in.
 #[derive(Clone, Copy, Debug)]
@@ -88,7 +88,7 @@ impl Connection {
     ghost use Rattle.std.specs.Prelude.{[], None, is_some, false, true};
     ghost use Rattle.server_socket.specs.Blocked.{not_blocked, written};
     ghost use Rattle.server_socket.specs.Connections.{is_due, is_set_aside, is_stuck, let_on, may_not_last, may_read, not_queued};
-    ghost use Rattle.server_state.specs.pacing.Due.{nothing};
+    ghost use Rattle.server_socket.specs.pacing.Due.{nothing};
 
     /// Returns a connection to which nothing has happened. Its socket may have something to read.
     pub fn new(client: Client, socket: TcpStream, party: Party) -> Connection

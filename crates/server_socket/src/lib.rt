@@ -8,6 +8,7 @@ mod connection;
 mod counted;
 mod fresh;
 mod heard;
+pub mod pacing;
 mod queue;
 mod reading;
 mod saying;

@@ -1,3 +1,2 @@
-pub mod pacing
 pub mod history
 pub mod mail

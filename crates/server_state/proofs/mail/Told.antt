@@ -5,7 +5,7 @@ use Rattle.std.proofs.lemmas.List.Folds.{list_any_at}
 use Rattle.std.proofs.lemmas.Bool.{ltb-true, lt-ltb}
 use Rattle.std.proofs.lemmas.Bool.Decides.{nat_tests}
 use Rattle.std.specs.List.{list_any}
-use Rattle.server_state.specs.declared.pacing.pending.Pending.{Pending}
+use Rattle.server_state.specs.declared.mail.pending.Pending.{Pending}
 use Rattle.server_state.specs.declared.mail.mailbox.Mail.{Mail}
 use Rattle.server_state.specs.mail.Mails.{is_awaited, is_drained, awaits, drains, frees, is_told, StaysTold, IsMore, AreMore, IsSaid, IsSaidBySome, IsItemTold}
 use Rattle.events.specs.declared.answer.Item.{Item}

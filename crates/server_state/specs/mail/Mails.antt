@@ -5,7 +5,7 @@ use Rattle.events.specs.declared.answer.Item.{Item}
 use Rattle.events.specs.declared.answer.Item.TheVariants.{Entered, Full, RouteFull, MapTooLong, Unmapped, MappedTooLong}
 use Rattle.events.specs.declared.answer.Outcome.{Outcome}
 use Rattle.events.specs.declared.answer.Outcome.TheVariants.{Published, Reloaded}
-use Rattle.server_state.specs.declared.pacing.pending.Pending.{Pending}
+use Rattle.server_state.specs.declared.mail.pending.Pending.{Pending}
 use Rattle.server_state.specs.declared.mail.mailbox.Mail.{Mail}
 
 -- whether an entry says that deliveries have entered for a connection

@@ -1,5 +1,5 @@
+use crate::mail::pending::Pending;
 use crate::mail::ways::Ways;
-use crate::pacing::Pending;
 use events::Answer;
 use mio::net::TcpStream;
 use mio::{Registry, Token, Waker};

@@ -3,7 +3,7 @@ ghost use Rattle.server_state.specs.mail.Owners.{owner};
 ghost use Rattle.server_state.specs.mail.Work.{work};
 
 use crate::mail::mailbox::{Mail, Mailbox};
-use crate::pacing::Pending;
+use crate::mail::pending::Pending;
 use events::{Answer, Item, Outcome};
 use std::alloc::Global;
 use std::mem;

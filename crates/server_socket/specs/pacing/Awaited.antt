@@ -1,7 +1,7 @@
 -- How much is read and taken at a time.
 use Rattle.std.specs.Prelude.{ℕ, ◌+◌, ◌-◌, ◌*◌, ◌/◌, Bool, true, false, min, max, nat_eq}
 use Rattle.std.specs.Io.Iter.{u64_saturate}
-use Rattle.server_state.specs.declared.pacing.awaited.Awaited.{Awaited}
+use Rattle.server_socket.specs.declared.pacing.awaited.Awaited.{Awaited}
 
 -- so many more wait
 abbrev pub more : Awaited → ℕ → ℕ → Awaited

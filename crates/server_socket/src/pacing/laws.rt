@@ -1,5 +1,5 @@
 // What holds of the definitions alone.
-ghost use Rattle.server_state.specs.pacing.Bounds.{AddsUp, FitsPiece, IsMeasured, LeavesHalf, StaysFewer};
+ghost use Rattle.server_socket.specs.pacing.Bounds.{AddsUp, FitsPiece, IsMeasured, LeavesHalf, StaysFewer};
 
 /// Tells what the bounds are for. While fewer deliveries wait for a connection than are many, those of another 4 KiB of messages
 /// leave half of its outbox free, and those of a whole piece fit into one for 2,231 deliveries or more, if a message has one

@@ -1,6 +1,6 @@
 // How much is read and taken at a time.
 ghost use Rattle.std.specs.Prelude.{◌≡◌};
-ghost use Rattle.server_state.specs.pacing.Awaited.{batch, fewer, many, mean, more, next_take};
+ghost use Rattle.server_socket.specs.pacing.Awaited.{batch, fewer, many, mean, more, next_take};
 
 /// How many deliveries are taken at a time at most.
 const MOST: usize = 256;

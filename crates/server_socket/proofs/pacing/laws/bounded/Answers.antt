@@ -1,5 +1,5 @@
-use Rattle.server_state.proofs.pacing.Paced.{adds_up, fits_piece, is_measured, leaves_half, stays_fewer}
-use Rattle.server_state.proofs.pacing.laws.bounded.Goals as goal
+use Rattle.server_socket.proofs.pacing.Paced.{adds_up, fits_piece, is_measured, leaves_half, stays_fewer}
+use Rattle.server_socket.proofs.pacing.laws.bounded.Goals as goal
 
 pub returns-clause-half : goal.returns-clause-half
 returns-clause-half c = leaves_half

@@ -1,9 +1,9 @@
 -- What the bounds are for (docs/ARCHITECTURE.md, "The server").
 use Rattle.std.specs.Prelude.{◌≡◌, ◌+◌, ◌-◌, ◌*◌, ◌≤◌, ℕ, true, max}
-use Rattle.server_state.specs.pacing.Awaited.{batch, many, mean, next_take}
-use Rattle.server_state.specs.pacing.Due.{may_wait, taken}
-use Rattle.server_state.specs.declared.pacing.awaited.Awaited.{Awaited}
-use Rattle.server_state.specs.declared.pacing.due.Due.{Due}
+use Rattle.server_socket.specs.pacing.Awaited.{batch, many, mean, next_take}
+use Rattle.server_socket.specs.pacing.Due.{may_wait, taken}
+use Rattle.server_socket.specs.declared.pacing.awaited.Awaited.{Awaited}
+use Rattle.server_socket.specs.declared.pacing.due.Due.{Due}
 
 -- Fewer deliveries wait than are many. With one of each message that another 4 KiB have, they fill half of the outbox at most.
 abbrev pub LeavesHalf : Type 0

@@ -3,8 +3,8 @@ use Rattle.std.proofs.Common.{◌≡◌, ◌-◌, ◌*◌, ◌/◌, ◌≤◌, �
 use Rattle.std.proofs.Math.Nat.{div-mul-le_self, mul-div-le, mul-le-mul_right}
 use Rattle.std.proofs.lemmas.Bool.{eqb-true, ltb-true, lt-ltb}
 use Rattle.std.specs.Prelude.{nat_eq, nat_lt}
-use Rattle.server_state.specs.pacing.Awaited.{many, mean, take_if}
-use Rattle.server_state.specs.pacing.Bounds.{AddsUp, FitsPiece, IsMeasured, LeavesHalf, StaysFewer}
+use Rattle.server_socket.specs.pacing.Awaited.{many, mean, take_if}
+use Rattle.server_socket.specs.pacing.Bounds.{AddsUp, FitsPiece, IsMeasured, LeavesHalf, StaysFewer}
 
 pub leaves_half : LeavesHalf
 leaves_half outbox d messages fewer few =

@@ -1,9 +1,9 @@
 -- What is due to a connection, and when (docs/ARCHITECTURE.md, "The server").
 use Rattle.std.specs.Option.{unwrap_or}
 use Rattle.std.specs.Prelude.{◌-◌, ◌||◌, ◌&&◌, ℕ, Bool, true, false, not, Option, Some, None, max, min, nat_eq, nat_lt}
-use Rattle.server_state.specs.pacing.Awaited as awaited
-use Rattle.server_state.specs.declared.pacing.pending.Pending.{Pending}
-use Rattle.server_state.specs.declared.pacing.due.Due.{Due}
+use Rattle.server_socket.specs.pacing.Awaited as awaited
+use Rattle.server_state.specs.declared.mail.pending.Pending.{Pending}
+use Rattle.server_socket.specs.declared.pacing.due.Due.{Due}
 
 -- nothing waits for it
 abbrev pub nothing : Due

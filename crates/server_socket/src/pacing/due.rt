@@ -1,10 +1,10 @@
 // What is due to a connection, and when.
 ghost use Rattle.std.specs.Prelude.{◌≡◌, is_some};
-ghost use Rattle.server_state.specs.pacing.Awaited.{had};
-ghost use Rattle.server_state.specs.pacing.Due.{barred, is_due, is_nothing, left_by_take, mail_lost, may_wait, more_pending, next_take, nothing, passed, taken};
+ghost use Rattle.server_socket.specs.pacing.Awaited.{had};
+ghost use Rattle.server_socket.specs.pacing.Due.{barred, is_due, is_nothing, left_by_take, mail_lost, may_wait, more_pending, next_take, nothing, passed, taken};
 
 use crate::pacing::awaited::Awaited;
-use crate::pacing::pending::Pending;
+use server_state::mail::Pending;
 
 /// How many deliveries are taken at a time where nothing is known of their size.
 const FEW: usize = 16;

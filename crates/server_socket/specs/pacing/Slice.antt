@@ -1,6 +1,6 @@
 -- How much is drained before sockets are looked at again.
 use Rattle.std.specs.Prelude.{ℕ, ◌-◌, ◌||◌, Bool, nat_eq}
-use Rattle.server_state.specs.declared.pacing.slice.Slice.{Slice}
+use Rattle.server_socket.specs.declared.pacing.slice.Slice.{Slice}
 
 -- 256 connections, 4,096 deliveries, a MiB
 abbrev pub whole : Slice

@@ -1,6 +1,6 @@
 // How much is drained before sockets are looked at again.
 ghost use Rattle.std.specs.Prelude.{◌≡◌};
-ghost use Rattle.server_state.specs.pacing.Slice.{is_spent, less, whole};
+ghost use Rattle.server_socket.specs.pacing.Slice.{is_spent, less, whole};
 
 /// What may still be drained before the sockets are looked at again.
 #[derive(Clone, Copy, Debug)]
