@@ -8,7 +8,7 @@ use Rattle.clap.specs.declared.builder.command.Command.{Command}
 use Rattle.clap.specs.declared.builder.command.Command.TheViews.{out-Command}
 use Rattle.clap.specs.declared.builder.value_parser.ValueParser.TheVariants.{Unsigned}
 use Rattle.command_line.specs.declared.options.Choices.{Choices}
-use Rattle.command_line.specs.Files.{file_rule}
+use Rattle.command_line.specs.Files.{file_rule, policy_file}
 use Rattle.command_line.specs.declared.options.LogChoice.{LogChoice}
 use Rattle.command_line.specs.declared.options.LogChoice.TheVariants as log_choice
 use Rattle.command_line.specs.declared.options.ServeOptions.{ServeOptions}
@@ -123,7 +123,7 @@ IsPeriodIn (Some text) None = ⊥
 IsPeriodIn (Some text) (Some n) = IsNumberIn 1 86400 (Some text) n
 
 pub record IsOptions (rows : List Row) (o : ServeOptions) : Type 0 where
-  pub policy : option_map string_bytes o.policy ≡ first_of (codes "policy") rows
+  pub policy : option_map string_bytes o.policy ≡ policy_file rows
   pub listen : string_bytes o.listen ≡ unwrap_or (first_of (codes "listen") rows) default_listen
   pub workers : IsNumberIn 1 64 (one_of (codes "workers") rows) o.workers
   pub outbox : IsNumberIn 1 65536 (one_of (codes "outbox") rows) o.outbox

@@ -39,7 +39,7 @@ pub fn compare_command<'a>(alloc: Global) -> Result<Command<'a>, AllocError>
         alloc,
         "new",
         "NEW",
-        "The policy that is to come, likewise; a token x that is printed stands for any that neither names",
+        "The policy to come, likewise; token x is any that neither policy names",
     ))?
     .arg(flag(alloc, "json", "Prints each change as a JSON object"))
 }

@@ -1,5 +1,5 @@
-//! What the words of a command line ask for (docs/SCRIPT.md, "Statuses"). It does nothing of it, and knows no file and no
-//! policy.
+//! What the words of a command line ask for (docs/SCRIPT.md, "Statuses"). It carries out nothing, and opens no
+//! file.
 #![tactic(auto)]
 
 mod comparing;

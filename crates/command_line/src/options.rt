@@ -3,7 +3,7 @@ ghost use Rattle.std.specs.Prelude.{◌≡◌, ◌≤◌, false, IfOk, codes, op
 ghost use Rattle.clap.specs.Words.{first_of, found_of, new_app, one_of, rows_of, rule_of};
 ghost use Rattle.command_line.specs.Options.{check_app, connections_rule, flag_rule, history_bytes_rule, history_rule, is_set, listen_rule, log_named, log_rule, number_rule, outbox_rule, policy_rule, serve_app, text_rule, workers_rule, word_at, AreChosen, IsLocalApp, IsNumberIn, IsOptions};
 
-use crate::files::file_word;
+use crate::files::{file_word, policy_file};
 use crate::keepalive::keepalive_option;
 use crate::stats::{period_in, stats_file_option, stats_option};
 use clap::builder::ValueParser;
@@ -234,7 +234,7 @@ pub(crate) fn policy_file_option<'a>(alloc: Global) -> Arg<'a>
         alloc,
         "policy",
         "FILE",
-        "The policy; without it, or with -, the policy is read on standard input",
+        "The policy; without it, or with -, standard input",
     )
 }
 
@@ -269,7 +269,7 @@ pub fn check_command<'a>(alloc: Global) -> Result<Command<'a>, AllocError>
     .arg(flag(
         alloc,
         "sets",
-        "Prints in place of that which accounts exchange messages, each set of them on a line",
+        "Prints the sets of accounts that exchange messages",
     ))?
     .arg(split_option(alloc))?
     .arg(file_word(alloc))?
@@ -289,7 +289,7 @@ fn split_option<'a>(alloc: Global) -> Arg<'a>
         alloc,
         "split",
         "DIR",
-        "Makes the folder DIR, and writes each set of accounts that exchange messages there as a policy of its own",
+        "Makes the folder DIR, with a policy for each such set",
     )
 }
 
@@ -301,7 +301,7 @@ pub fn serve_command<'a>(alloc: Global) -> Result<Command<'a>, AllocError>
     local_command(
         alloc,
         "serve",
-        "Serves clients over sockets, by a policy that may change while it runs",
+        "Serves clients over sockets, by a policy that may change meanwhile",
     )
     .arg(policy_option(alloc))?
     .arg(listen_option(alloc))?
@@ -380,7 +380,7 @@ pub fn options_of(
 ) -> Result<ServeOptions, AllocError>
     ensures { IfOk result (λ options. AreChosen (rows_of (found_of matches.now)) choices → IsOptions (rows_of (found_of matches.now)) options) }
 {
-    let policy = text_in(alloc, matches, "policy")?;
+    let policy = policy_file(alloc, matches)?;
     let stats_file = text_in(alloc, matches, "stats-file")?;
     let listen = match text_in(alloc, matches, "listen")? {
         Some(listen) => listen,

@@ -88,7 +88,7 @@ fn natsd_command<'a>(alloc: Global) -> Result<Command<'a>, AllocError>
         .disable_help_subcommand(true)
         .subcommand_required(true)
         .subcommand(Command::new(alloc, "play").about(
-            "Plays a script of clients against one server: reads it on standard input, prints what each client is sent",
+            "Plays a script of clients, and prints what each is sent",
         ))?
         .subcommand(check_command(alloc)?)?
         .subcommand(explain_command(alloc)?)?
