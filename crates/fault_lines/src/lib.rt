@@ -1,6 +1,6 @@
-//! What an operator is told of each fault of a policy's text, of one as a policy too, and of a text that is no JSON
-//! (docs/POLICY.md, "Every fault"). It knows no file, and which fault a policy is refused for is `policy_text`'s to
-//! say.
+//! An operator's line for each fault of a policy, also of a text that is no JSON
+//! (docs/POLICY.md, "Every fault"). It knows no file; `policy_text` decides which fault refuses
+//! a policy.
 #![tactic(auto)]
 
 mod document;

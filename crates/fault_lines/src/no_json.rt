@@ -27,12 +27,12 @@ impl Oddity {
             Oddity::ByteOrderMark => "a byte order mark, which no policy has",
             Oddity::NotUtf8 => "bytes that aren't UTF-8",
             Oddity::Word => {
-                "a word without quotes: a configuration of nats-server becomes a policy by tools/from_nats_server"
+                "a word without quotes; if this is a configuration of nats-server, tools/from_nats_server makes a policy of it"
             }
             Oddity::Comment => "a comment, which JSON hasn't",
             Oddity::Comma => "a comma behind the last value, which JSON hasn't",
             Oddity::Control =>
-                "a TAB or another control byte in a text, which JSON writes as \\t or \\u0009",
+                "a TAB or another control byte in a text: write a space in an entry, elsewhere \\t",
         }
     }
 }

@@ -1,5 +1,5 @@
-//! What of a policy without a fault is likely a mistake: entries that decide nothing, users who can do nothing or
-//! never come in, imports that no user can use (docs/POLICY.md, "Warnings"). It judges no message.
+//! Likely mistakes in a policy without a fault: entries that decide nothing, users who can do nothing or never connect, imports
+//! that no user can use (docs/POLICY.md, "Warnings"). It knows no connection and no file.
 #![tactic(auto)]
 
 mod covering;

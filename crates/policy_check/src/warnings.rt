@@ -70,7 +70,7 @@ fn placed_one(
         None => Ok(format!(in alloc; "{words}, at {place}")?),
         Some(path) => {
             let other = place_at(text.as_bytes(), at_of(spots, path).unwrap_or(0));
-            Ok(format!(in alloc; "{words}, at {place} and at {other}")?)
+            Ok(format!(in alloc; "{words}, at {other} and at {place}")?)
         }
     }
 }
