@@ -1,5 +1,5 @@
-//! What bytes are read from and written to, whose contracts tell the bytes and the failures. It knows no protocol, no policy
-//! and no socket of its own.
+//! Readers and writers of bytes, also without waiting; contracts say which bytes passed and whether they failed. It knows no
+//! protocol and no policy, and opens no socket.
 #![tactic(auto)]
 
 mod device;

@@ -1,5 +1,5 @@
-//! What a connection and the tables say to each other: events, what is answered, and messages on their way. It has no
-//! behaviour beyond further owners and texts, and knows neither side.
+//! What connections and tables say to each other: events, answers, messages on their way, and the trait `Port` between them. It
+//! decides nothing, and knows neither side.
 #![tactic(auto)]
 
 mod answer;

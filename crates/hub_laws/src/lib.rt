@@ -1,5 +1,5 @@
-//! Laws that follow from the routing guarantee, and laws of grants and routes over the whole history, each a sentence with a
-//! name. They have no code, and know no thread and no tenant.
+//! Laws of one step, and of grants and routes over a whole history, each a sentence with a name. They have no code and know no
+//! thread; `tenant_laws` has what tenants see of each other.
 #![tactic(auto)]
 
 pub mod grants;

@@ -1,5 +1,5 @@
-//! The text of each line that a server tells its operator (docs/OPERATING.md, "What the server tells"), what a client's
-//! CONNECT says of its program, and how many lines are let through. It knows no thread, no connection and no policy.
+//! The text of each line of a server's log (docs/OPERATING.md, "What the server tells"), what a client's CONNECT says of its
+//! program, and how many lines are let through. It knows no thread, no socket and no policy.
 #![tactic(auto)]
 
 mod line;

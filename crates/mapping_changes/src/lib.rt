@@ -1,5 +1,5 @@
-//! What a change of an account's mappings changes: a subject that both send on otherwise, and where each sends it. It
-//! knows no account and no policy.
+//! A subject that an account's old and new mappings send on differently, and where each sends it. It knows no account and no
+//! policy.
 #![tactic(auto)]
 
 mod changing;

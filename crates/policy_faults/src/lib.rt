@@ -1,5 +1,5 @@
-//! Every fault of a policy's text as a document, each with what is wanted in its place (docs/POLICY.md, "Every
-//! fault"). It tells nobody, and which fault a policy is refused for is `policy_text`'s to say.
+//! Every fault of a policy's text as a document, each with what is wanted instead (docs/POLICY.md, "Every fault"). It knows no
+//! file; `policy_text` decides which fault refuses a policy.
 #![tactic(auto)]
 
 mod finding;

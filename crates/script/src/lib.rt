@@ -1,5 +1,5 @@
-//! Scripts of clients over one server, and what they print (docs/SCRIPT.md); connections over a hub of one's own, and the law
-//! of any calls. It knows no socket and no thread.
+//! Plays scripts of clients over one hub (docs/SCRIPT.md); `sessions` has the law of any calls. It knows no socket and no
+//! thread.
 #![tactic(auto)]
 
 mod client;

@@ -1,5 +1,5 @@
-//! One connection: the bytes of its client to events of a port, and the answers to bytes (NATS documentation, "Client
-//! Protocol"; docs/PROTOCOL.md). It knows its port by the trait alone, and no other connection.
+//! One connection: it turns its client's bytes into events for a port, and answers and deliveries into bytes
+//! (docs/PROTOCOL.md). It knows the port by its trait alone, no socket and no other connection.
 #![tactic(auto)]
 
 mod conn;

@@ -1,5 +1,5 @@
-//! Does what the words of a command line ask for, and tells what came of it (docs/SCRIPT.md, "Statuses"). It knows no socket
-//! and no thread: `natsd` starts a server.
+//! Plays a script, checks or explains a policy, names its closed sets, and returns the status (docs/SCRIPT.md, "Statuses"). It
+//! knows no socket and no thread; `natsd` does the rest.
 #![tactic(auto)]
 
 mod answer;
