@@ -127,7 +127,7 @@ class Net:
             want(words == ["reload", "haproxy"], f"nobody expects {line}")
             self.reload_proxy()
         else:
-            subprocess.run([command, *words], cwd=self.room, check=True)
+            subprocess.run(["sh", "-c", line], cwd=self.room, check=True)
 
     def start(self, host, unit):
         name = unit.removeprefix("natsd@")
