@@ -10,7 +10,7 @@ use reply_grants::Note;
 use std::alloc::Global;
 use std::marker::Model;
 use std::slice;
-use stores::outbox::Batch;
+use stores::outbox::{Batch, Several};
 use subjects::{Pattern, Subject};
 
 /// A message on its way to one subscription. All deliveries of a message share it.
@@ -36,6 +36,37 @@ impl Copying for Delivery {
             sid: self.sid.again()?,
         })
     }
+}
+
+/// What waits as one element is one delivery.
+impl Several for Delivery {
+    ghost use Rattle.std.specs.Prelude.{◌∷◌, []};
+
+    type Item = Delivery;
+
+    ghost each = { λ d. d ∷ [] };
+
+    fn one(item: Delivery) -> Delivery {
+        item
+    }
+
+    fn count(&self) -> usize {
+        1
+    }
+
+    fn first_part(&self, alloc: Global, _count: usize) -> Result<Delivery, NoMemory> {
+        self.copy(alloc)
+    }
+
+    fn leave_out(&mut self, _count: usize) {}
+}
+
+/// Returns the deliveries of a batch, oldest first.
+#[tactic(auto, using(crate::proofs::Batches::each_alone))]
+pub fn deliveries_in(batch: &Batch<Delivery>) -> &[Delivery]
+    ensures { result.now ≡ batch.now }
+{
+    batch.as_slice()
 }
 
 /// A delivery, and the subscription that it is for.

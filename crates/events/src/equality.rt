@@ -4,7 +4,9 @@ ghost use Rattle.std.specs.Bool.{Decides};
 ghost use Rattle.events.specs.declared.answer.Outcome.TheVariants.{Published, Taken, Reloaded};
 ghost use Rattle.events.specs.declared.event.Command.TheVariants.{Connect, Sub, Unsub, Pub, Take, Close, Reload};
 
-use crate::{Command, Delivery, Entry, Event, Item, Message, Met, Outcome, Removed, Sent};
+use crate::{
+    Command, Delivery, Entry, Event, Item, Message, Met, Outcome, Removed, Sent, deliveries_in,
+};
 use base::{Alike, Items, Shared, SharedText, are_alike, are_same_bytes};
 use permissions::By;
 use policy_ready::Ready;
@@ -30,6 +32,13 @@ impl Alike for Delivery {
     fn is_like(&self, other: &Delivery) -> bool {
         self.message.is_like(&other.message) && self.sid.is_like(&other.sid)
     }
+}
+
+/// Whether two batches have the same deliveries in the same order.
+pub fn are_same_deliveries(one: &Batch<Delivery>, other: &Batch<Delivery>) -> bool
+    ensures { Decides result (one.now ≡ other.now) }
+{
+    are_alike(deliveries_in(one), deliveries_in(other))
 }
 
 impl Alike for Item {
@@ -134,7 +143,8 @@ fn is_taken(outcome: &Outcome, left: &Batch<Delivery>, lost: bool) -> bool
     ensures { Decides result (outcome.now ≡ Taken left.now lost) }
 {
     match outcome {
-        Outcome::Taken(deliveries, missed) => deliveries.is_like(left) && *missed == lost,
+        Outcome::Taken(deliveries, missed) => are_same_deliveries(deliveries, left)
+            && *missed == lost,
         _ => false,
     }
 }

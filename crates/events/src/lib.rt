@@ -11,7 +11,8 @@ mod run;
 mod sent;
 mod words;
 
-pub use answer::{Addressed, Answer, Delivery, Entry, Item, Met, Outcome, Removed};
+pub use answer::{Addressed, Answer, Delivery, Entry, Item, Met, Outcome, Removed, deliveries_in};
+pub use equality::are_same_deliveries;
 pub use event::{Command, Event};
 pub use messages::{Message, Sid};
 pub use port::{InvalidFrame, Port};

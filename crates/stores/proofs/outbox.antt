@@ -1,2 +1,4 @@
 mod Batches
+mod Copies
 mod Fronts
+mod Parts

@@ -2,6 +2,8 @@
 
 mod batch;
 mod bounded;
+mod several;
 
 pub use batch::Batch;
 pub use bounded::Outbox;
+pub use several::Several;

@@ -1,5 +1,5 @@
-//! All of a publish: what it comes to, before anything changes, and its deliveries handed over; and the deny marks of what
-//! stands. It knows no other command, and no history.
+//! All of a publish: decided without changing a table, then its deliveries handed over. It also keeps the deny marks; it
+//! carries out no other command, and knows no history.
 #![tactic(auto)]
 
 mod caches;

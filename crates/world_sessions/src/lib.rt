@@ -10,4 +10,4 @@ mod sessions;
 
 pub use crate::deliveries::Session;
 pub use sessions::Sessions;
-pub use stores::outbox::Outbox;
+pub use stores::outbox::{Batch, Outbox};

@@ -233,7 +233,7 @@ impl Sessions {
         ensures same { self.new ≡ self.old }
     {
         match self.place_of(conn) {
-            None => Batch::from_vec(self.alloc, Vec::new(self.alloc)),
+            None => Batch::empty(self.alloc),
             Some(place) => self.list[place].share(most),
         }
     }

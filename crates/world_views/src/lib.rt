@@ -1,5 +1,5 @@
-//! A message addressed in each of its views, one after the other, with the response routes that it opens or ends. It hands
-//! nothing over, and doesn't know whether the message is allowed.
+//! Finds a message's receivers in each of its views, and opens or ends its response routes. It hands nothing over, and doesn't
+//! judge whether the message is allowed.
 #![tactic(auto)]
 
 mod across;

@@ -2,7 +2,7 @@
 ghost use Rattle.std.specs.Prelude.{◌≡◌};
 ghost use Rattle.session_plan.specs.pending.Owing.{deliveries_of, missed_in};
 
-use events::{Answer, Delivery, Outcome};
+use events::{Answer, Delivery, Outcome, deliveries_in};
 use std::alloc::Global;
 use std::marker::Model;
 
@@ -150,7 +150,7 @@ fn deliveries_of(answer: &Option<Answer>) -> &[Delivery]
     match answer {
         None => &[],
         Some(answer) => match &answer.get().outcome {
-            Outcome::Taken(deliveries, _) => deliveries.as_slice(),
+            Outcome::Taken(deliveries, _) => deliveries_in(deliveries),
             Outcome::Connected
             | Outcome::AuthViolation
             | Outcome::Subscribed

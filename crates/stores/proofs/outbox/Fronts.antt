@@ -1,15 +1,11 @@
 -- One element more of the front of a list.
 use Rattle.std.proofs.Common.{◌≡◌, ◌∙◌, ℕ, zero, suc, ◌+◌, ◌<◌, List, [], ◌∷◌, ◌++◌, take, drop, length, Some, None, slice_get, ap, sym, arith, refl}
-use Rattle.std.proofs.lemmas.List.{append_assoc, take_more, drop-drop}
+use Rattle.std.proofs.lemmas.List.{take_more, drop-drop}
 use Rattle.std.proofs.lemmas.Option.{get_or_from_slice_get, slice_get_within}
 
 -- the element at an index comes behind those before it
 pub take_next : {X : Type 0} (xs : List X) (i : ℕ) (x : X) → slice_get xs i ≡ Some x → take (i + 1) xs ≡ take i xs ++ x ∷ []
 take_next xs i x e = take_more xs i x (slice_get_within xs i x e) ∙ ap (λ y. take i xs ++ y ∷ []) (get_or_from_slice_get xs i x x e)
-
--- the same behind what was there before
-pub next_behind : {X : Type 0} (ys xs : List X) (i : ℕ) (x : X) → slice_get xs i ≡ Some x → ys ++ take (i + 1) xs ≡ (ys ++ take i xs) ++ x ∷ []
-next_behind ys xs i x e = ap (λ t. ys ++ t) (take_next xs i x e) ∙ sym (append_assoc ys (take i xs) (x ∷ []))
 
 -- below the length there is an element
 pub is_there : {X : Type 0} (xs : List X) (i : ℕ) → i < length xs → slice_get xs i ≡ None → ⊥

@@ -1,55 +1,58 @@
 //! Elements that leave an outbox together.
-ghost use Rattle.std.specs.Prelude.{◌≡◌, ◌≤◌, ◌++◌, length, take, drop, OnOk};
+ghost use Rattle.std.specs.Prelude.{◌≡◌, ◌≤◌, ◌<◌, ◌+◌, ◌^◌, ◌++◌, [], length, take, drop, flat_map, OnOk};
+ghost use Rattle.std.specs.Vec.{vec_len, vec_capacity};
+ghost use Rattle.stores.specs.outbox.Bounded.{listed};
 
-use base::{Alike, NoMemory, are_alike};
+use crate::outbox::several::Several;
+use base::NoMemory;
 use circular_buffer::HeapCircularBuffer;
 use std::alloc::Global;
 use std::marker::Model;
 use std::mem;
 use std::sync::Arc;
 
-/// Elements that leave an outbox together, oldest first. They may have several owners: one more takes no memory and
-/// copies nothing. A clause sees their list.
+/// What leaves an outbox together, oldest first. It may have several owners: one more takes no memory and copies
+/// nothing. A clause sees the list of it: of an element that is several it sees each.
 #[derive(Debug)]
-pub struct Batch<T> {
+pub struct Batch<T: Several> {
     items: Arc<Vec<T>>,
-    /// How many of the items are left out, the oldest.
-    gone: usize,
+    /// How many they are in all.
+    count: usize,
 }
 
-impl<T: Drop> Drop for Batch<T> {
+impl<T: Several + Drop> Drop for Batch<T> {
     #[inline(always)]
     fn drop(self) {
-        let Self { items: _, gone: _ } = self;
+        let Self { items: _, count: _ } = self;
     }
 }
 
-impl<T> Model for Batch<T> {
-    ghost use Rattle.std.specs.Prelude.{◌≤◌, List, drop, length};
+impl<T: Several> Model for Batch<T> {
+    ghost use Rattle.std.specs.Prelude.{◌≡◌, List, flat_map, length};
     ghost use Rattle.std.specs.Arc.{arc_value};
 
-    ghost Value = { List T };
+    ghost Value = { List T.Item };
 
-    ghost view = { λ b. drop b.gone (arc_value b.items).items };
+    ghost view = { λ b. flat_map T.each (arc_value b.items).items };
 
-    ghost invariant = { λ b. b.gone ≤ length (arc_value b.items).items };
+    ghost invariant = { λ b. b.count ≡ length (flat_map T.each (arc_value b.items).items) };
 }
 
-impl<T> Batch<T> {
-    ghost use Rattle.std.specs.Prelude.{◌≡◌, ◌≤◌, length, drop, IfOk};
+impl<T: Several> Batch<T> {
+    ghost use Rattle.std.specs.Prelude.{◌≡◌, length, flat_map, IfOk};
 
     /// Returns the elements in order.
     pub fn as_slice(&self) -> &[T]
-        ensures { result.now ≡ self.now }
+        ensures { flat_map T.each result.now ≡ self.now }
     {
-        &self.items.as_slice()[self.gone..]
+        self.items.as_slice()
     }
 
-    /// Returns how many there are.
+    /// Returns how many there are: of an element that is several it counts each.
     pub fn len(&self) -> usize
         ensures { result ≡ length self.now }
     {
-        self.as_slice().len()
+        self.count
     }
 
     /// Returns one more owner. `NoMemory` where there are too many to count.
@@ -58,65 +61,90 @@ impl<T> Batch<T> {
     {
         Ok(Batch {
             items: Arc::try_clone(&self.items)?,
-            gone: self.gone,
+            count: self.count,
         })
-    }
-
-    /// Leaves the oldest out, so many of them.
-
-    pub(crate) fn leave_out(&mut self, count: usize)
-        requires { count ≤ length self.old }
-        ensures { self.new ≡ drop count self.old }
-    {
-        self.gone += count;
     }
 }
 
-impl<T: Drop> Batch<T> {
-    ghost use Rattle.std.specs.Prelude.{◌≡◌, ◌≤◌, length, take, drop, IfOk, OnOk, OnErr};
+impl<T: Several + Drop> Batch<T> {
+    ghost use Rattle.std.specs.Prelude.{◌≡◌, ◌≤◌, ◌++◌, [], length, take, drop, flat_map, IfOk, OnOk, OnErr};
+    ghost use Rattle.stores.specs.outbox.Bounded.{listed};
 
-    /// Returns the elements of a vector, which is handed over and not copied. `NoMemory` where memory could not be had.
-    pub fn from_vec(alloc: Global, items: Vec<T>) -> Result<Batch<T>, NoMemory>
-        ensures { IfOk result (λ batch. batch ≡ items.items) }
+    /// Returns a batch with nothing. `NoMemory` where memory could not be had.
+    pub fn empty(alloc: Global) -> Result<Batch<T>, NoMemory>
+        ensures { IfOk result (λ batch. batch ≡ []) }
     {
         Ok(Batch {
-            items: Arc::new(alloc, items)?,
-            gone: 0,
+            items: Arc::new(alloc, Vec::new(alloc))?,
+            count: 0,
         })
     }
 
-    /// Returns the first so many elements of a ring, moved out of it. Where memory could not be had they stay there.
+    /// Returns the elements of a vector, which are so many in all. It is handed over and not copied. `NoMemory` where
+    /// memory could not be had.
+    pub(crate) fn from_vec(alloc: Global, items: Vec<T>, count: usize) -> Result<Batch<T>, NoMemory>
+        requires { count ≡ length (flat_map T.each items.items) }
+        ensures { IfOk result (λ batch. batch ≡ flat_map T.each items.items) }
+    {
+        Ok(Batch {
+            items: Arc::new(alloc, items)?,
+            count,
+        })
+    }
+
+    /// Returns the first so many elements of a ring, moved out of it, and another behind them, if there is one: these
+    /// are so many in all. Where memory could not be had they stay there.
     pub(crate) fn from_front(
         ring: &mut HeapCircularBuffer<T>,
         count: usize,
+        last: Option<T>,
+        all: usize,
     ) -> Result<Batch<T>, NoMemory>
-        requires { count ≤ length ring.old.items }
-        ensures taken { IfOk result (λ batch. batch ≡ take count ring.old.items) }
+        requires within { count ≤ length ring.old.items }
+        requires all { all ≡ length (flat_map T.each (take count ring.old.items ++ listed last)) }
+        ensures taken { IfOk result (λ batch. batch ≡ flat_map T.each (take count ring.old.items ++ listed last)) }
         ensures rest { OnOk result (ring.new.items ≡ drop count ring.old.items) }
         ensures room { ring.new.capacity ≡ ring.old.capacity }
         ensures err { OnErr result (ring.new ≡ ring.old) }
     {
         let alloc = *ring.allocator();
-        let mut items = Arc::new(alloc, Vec::with_capacity(alloc, count)?)?;
+        let _bound = ring.len();
+        let room = places(count, &last);
+        let mut items = Arc::new(alloc, Vec::with_capacity(alloc, room)?)?;
         match Arc::get_mut(&mut items) {
             None => return Err(NoMemory),
-            Some(room) => move_front(ring, count, room),
+            Some(room) => move_front(ring, count, last, room),
         }
-        Ok(Batch { items, gone: 0 })
+        Ok(Batch { items, count: all })
     }
 }
 
-ghost use Rattle.std.specs.Prelude.{[], ◌+◌};
-ghost use Rattle.std.specs.Vec.{vec_len, vec_capacity};
+/// Returns how many so many elements are with another, if there is one.
+#[inline(always)]
+fn places<T>(count: usize, last: &Option<T>) -> usize
+    requires { count < 2 ^ 63 }
+    ensures { result ≡ count + length (listed last.now) }
+{
+    match last {
+        None => count,
+        Some(_) => count + 1,
+    }
+}
 
-/// Moves the first so many elements of a ring into an empty vector, which has room for them. The vector is a local meanwhile, so
-/// that its fields stay in registers. What stands in its place takes no memory.
+/// Moves the first so many elements of a ring, and another behind them if there is one, into an empty vector, which
+/// has room for them. The vector is a local meanwhile, so that its fields stay in registers. What stands in its place
+/// takes no memory.
 #[tactic(auto, using(crate::proofs::outbox::Fronts::take_first_left, crate::proofs::outbox::Fronts::drop_first_left, crate::proofs::outbox::Fronts::is_left))]
-fn move_front<T: Drop>(ring: &mut HeapCircularBuffer<T>, count: usize, room: &mut Vec<T>)
+fn move_front<T: Drop>(
+    ring: &mut HeapCircularBuffer<T>,
+    count: usize,
+    last: Option<T>,
+    room: &mut Vec<T>,
+)
     requires count { count ≤ length ring.old.items }
     requires empty { room.old.items ≡ [] }
-    requires room { count ≤ vec_capacity room.old }
-    ensures taken { room.new.items ≡ take count ring.old.items }
+    requires room { count + length (listed last) ≤ vec_capacity room.old }
+    ensures taken { room.new.items ≡ take count ring.old.items ++ listed last }
     ensures rest { ring.new.items ≡ drop count ring.old.items }
     ensures capacity { ring.new.capacity ≡ ring.old.capacity }
 {
@@ -127,11 +155,8 @@ fn move_front<T: Drop>(ring: &mut HeapCircularBuffer<T>, count: usize, room: &mu
             moved.push_reserved(next);
         }
     }
-    mem::forget(mem::replace(room, moved));
-}
-
-impl<T: Alike> Alike for Batch<T> {
-    fn is_like(&self, other: &Batch<T>) -> bool {
-        are_alike(self.as_slice(), other.as_slice())
+    if let Some(last) = last {
+        moved.push_reserved(last);
     }
+    mem::forget(mem::replace(room, moved));
 }

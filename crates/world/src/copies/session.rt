@@ -1,13 +1,13 @@
 ghost use Rattle.std.specs.Prelude.{◌≡◌, IfOk};
 
 use base::{Alike, Copying, Items, NoMemory};
-use events::Delivery;
+use events::{Delivery, are_same_deliveries};
 use policy_ready::User;
 use reply_grants::PlainGrant;
 use std::alloc::Global;
 use std::marker::Model;
-use world_sessions::Outbox;
 use world_sessions::deliveries::Session;
+use world_sessions::{Batch, Outbox};
 
 /// A session as it was at a moment. A clause sees the session. What waited for its client is a list, so that it takes
 /// no more memory than that.
@@ -18,7 +18,7 @@ pub struct PlainSession {
     missed: bool,
     // How much may wait. It has 128 bits, since an outbox tells only how much waits and how much more may.
     capacity: u128,
-    waiting: Items<Delivery>,
+    waiting: Batch<Delivery>,
     replies: Option<Items<PlainGrant>>,
 }
 
@@ -76,11 +76,11 @@ fn capacity_of(outbox: &Outbox<Delivery>) -> u128
 }
 
 /// All that waits in an outbox, oldest first.
-fn waiting_in(outbox: &Outbox<Delivery>) -> Result<Items<Delivery>, NoMemory>
+fn waiting_in(outbox: &Outbox<Delivery>) -> Result<Batch<Delivery>, NoMemory>
     ensures { IfOk result (λ waiting. waiting ≡ outbox.now.waiting) }
 {
     let waiting = outbox.front(outbox.len())?;
-    Ok(Items::from_vec(waiting))
+    Ok(waiting)
 }
 
 /// Sessions as they are, in the same order. `NoMemory` where memory could not be had.
@@ -101,7 +101,7 @@ impl Alike for PlainSession {
             && self.missed == other.missed
             && self.capacity == other.capacity
             && self.user.is_like(&other.user)
-            && self.waiting.is_like(&other.waiting)
+            && are_same_deliveries(&self.waiting, &other.waiting)
             && self.replies.is_like(&other.replies)
     }
 }

@@ -6,7 +6,7 @@ ghost use Rattle.world_sessions.specs.leniency.Held.{bytes_of, weight_of, is_ove
 
 use crate::Session;
 use base::NoMemory;
-use events::{Delivery, Message};
+use events::{Delivery, Message, deliveries_in};
 
 /// Returns how many bytes a message has, beside its subjects.
 #[inline(always)]
@@ -46,5 +46,5 @@ pub(crate) fn is_over(room: Option<usize>, session: Option<&Session>) -> Result<
         return Ok(false);
     };
     let waiting = session.outbox.front(session.outbox.len())?;
-    Ok(weigh_more(waiting.as_slice(), room))
+    Ok(weigh_more(deliveries_in(&waiting), room))
 }

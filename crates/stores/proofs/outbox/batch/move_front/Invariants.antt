@@ -1,5 +1,6 @@
 -- the first elements are moved, and the ring has the others
-use Rattle.std.proofs.Common.{◌≡◌, take, drop, vec_len, vec_capacity, ◌≤◌}
+use Rattle.std.proofs.Common.{◌≡◌, ◌≤◌, ◌+◌, take, drop, length, vec_len, vec_capacity}
+use Rattle.stores.specs.outbox.Bounded.{listed}
 use Rattle.stores.proofs.outbox.batch.move_front.Given as goal
 
 abbrev pub invariant-moving : goal.invariant-moving
@@ -8,5 +9,5 @@ invariant-moving g l = record {
   rest : l.ring.items ≡ drop l.counter l.initial.ring.items;
   capacity : l.ring.capacity ≡ l.initial.ring.capacity;
   moved : vec_len l.moved ≡ l.counter;
-  reserved : l.count ≤ vec_capacity l.moved;
+  reserved : l.count + length (listed l.last) ≤ vec_capacity l.moved;
 }
