@@ -15,5 +15,6 @@ pub mod Sent
 pub mod Guaranteed
 pub mod Counts
 pub mod Legal
+pub mod Handed
 pub mod Parts
 pub mod Runs

@@ -4,6 +4,7 @@ use base::{Copying, Items, NoMemory, Shared};
 use events::{Answer, Event, HubRefusal, Message, PublishRefusal};
 use policy_doc::Policy;
 use policy_ready::Ready;
+use records::History;
 use reply_grants::GrantEnd;
 use std::alloc::Global;
 use std::collections::VecDeque;
@@ -42,7 +43,7 @@ pub struct Hub {
     /// The world before the entries.
     opening: Shared<PlainWorld>,
     most: usize,
-    entries: Vec<Answer>,
+    history: History,
 }
 
 impl Drop for Hub {
@@ -52,7 +53,7 @@ impl Drop for Hub {
             world: _,
             opening: _,
             most: _,
-            entries: _,
+            history: _,
         } = self;
     }
 }
@@ -69,17 +70,17 @@ impl Model for Hub {
       world = h.world;
       opening = h.opening;
       most = h.most;
-      entries = h.entries.items;
+      entries = h.history.entries;
     } };
 
     ghost invariant = { λ h. IsSound h.world
-        × IsLegalRun h.opening h.entries.items h.world
-        × (length h.entries.items ≤ h.most)
+        × IsLegalRun h.opening h.history.entries h.world
+        × (length h.history.entries ≤ h.most)
         × IsReached h.opening };
 }
 
 impl Hub {
-    ghost use Rattle.std.specs.Prelude.{◌≡◌, ◌≤◌, ◌++◌, List, IfOk, IfErr, OnOk, OnErr, All, length};
+    ghost use Rattle.std.specs.Prelude.{◌≡◌, ◌≤◌, ◌<◌, ◌++◌, List, false, IfOk, IfErr, OnOk, OnErr, All, length};
     ghost use Rattle.events.specs.Offers.{IsOffered};
     ghost use Rattle.events.specs.declared.answer.Entry.{Entry};
     ghost use Rattle.world.specs.World as worlds;
@@ -115,7 +116,7 @@ impl Hub {
             world,
             opening,
             most: caps.history,
-            entries: Vec::new(alloc),
+            history: History::new(alloc),
         })
     }
 
@@ -186,7 +187,7 @@ impl Hub {
         if self.is_full() {
             return Err((event, PublishRefusal::By(HubRefusal::HistoryFull)));
         }
-        if self.entries.reserve(1).is_err() {
+        if self.history.reserve().is_err() {
             let refusal = self.refusal_of(&event);
             return Err((event, PublishRefusal::By(refusal)));
         }
@@ -194,7 +195,7 @@ impl Hub {
             Ok((told, kept)) => {
                 // The entry has all that the event has.
                 drop(event);
-                Ok(append(&mut self.entries, told, kept))
+                Ok(append(&mut self.history, told, kept))
             }
             Err(refusal) => Err((event, refusal)),
         }
@@ -213,9 +214,10 @@ impl Hub {
 
     /// Whether the history has no room for an entry, or no number is left.
     fn is_full(&self) -> bool
-        ensures { result ≡ is_history_full self.now }
+        ensures full { result ≡ is_history_full self.now }
+        ensures few { result ≡ false → length self.now.entries < 18446744073709551615 }
     {
-        self.entries.len() >= self.most || self.world.number() == u64::MAX
+        self.history.len() >= self.most || self.world.number() == u64::MAX
     }
 
     /// The refusal of an event that finds no memory for its entry: the world's, or `NoMemory`.
@@ -286,7 +288,7 @@ impl Hub {
     {
         let closing = keep(self.alloc, &self.world)?;
         let next = closing.again()?;
-        let entries = mem::replace(&mut self.entries, Vec::new(self.alloc));
+        let entries = mem::replace(&mut self.history, History::new(self.alloc));
         let opening = mem::replace(&mut self.opening, next);
         Ok(Segment::of(opening, entries, closing))
     }
@@ -307,11 +309,11 @@ impl Hub {
 
     /// The entries since the opening or last rotation, oldest first: one for each event that was answered. They lead,
     /// one by one, from the world before them to the present one.
-    pub fn history(&self) -> &[Answer]
-        ensures entries { result.now ≡ self.now.entries }
-        ensures legal { IsLegalRun self.now.opening result.now self.now.world }
+    pub fn history(&self) -> &History
+        ensures entries { result.now.entries ≡ self.now.entries }
+        ensures legal { IsLegalRun self.now.opening result.now.entries self.now.world }
     {
-        self.entries.as_slice()
+        &self.history
     }
 
     /// The policy in force, made ready.
@@ -372,7 +374,7 @@ impl Hub {
     }
 }
 
-ghost use Rattle.std.specs.Prelude.{◌≡◌, ◌<◌, ◌++◌, ◌∷◌, [], IfOk, vec_len, vec_capacity};
+ghost use Rattle.std.specs.Prelude.{◌≡◌, ◌≤◌, ◌<◌, ◌++◌, ◌∷◌, [], IfOk, length};
 
 /// Copies a world, to be shared by the parts of a history that meet there.
 fn keep(alloc: Global, world: &World) -> Result<Shared<PlainWorld>, NoMemory>
@@ -384,12 +386,13 @@ fn keep(alloc: Global, world: &World) -> Result<Shared<PlainWorld>, NoMemory>
 }
 
 /// Appends the history's handle of an entry, and returns the caller's.
-fn append(entries: &mut Vec<Answer>, told: Answer, kept: Answer) -> Answer
-    requires room { vec_len entries.old < vec_capacity entries.old }
+fn append(history: &mut History, told: Answer, kept: Answer) -> Answer
+    requires room { 1 ≤ history.old.room }
+    requires few { length history.old.entries < 18446744073709551615 }
     requires same { kept ≡ told }
     ensures answer { result ≡ told }
-    ensures entered { entries.new.items ≡ entries.old.items ++ told ∷ [] }
+    ensures entered { history.new.entries ≡ history.old.entries ++ told ∷ [] }
 {
-    entries.push_reserved(kept);
+    history.push_reserved(kept);
     told
 }

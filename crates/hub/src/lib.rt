@@ -12,6 +12,7 @@ pub use events::{
 };
 pub use hub::{Caps, Hub};
 pub use policy_ready::{Ready, User};
+pub use records::History;
 pub use segment::Segment;
 pub use world::PlainWorld;
 pub use world::copies::Standing;

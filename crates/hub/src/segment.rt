@@ -1,6 +1,6 @@
 //! A part of a history that its hub has handed out.
 use base::Shared;
-use events::Answer;
+use records::History;
 use std::marker::Model;
 use world::PlainWorld;
 
@@ -8,7 +8,7 @@ use world::PlainWorld;
 /// type keeps that they lead, one by one, from the one to the other. Parts that meet share the world between them.
 pub struct Segment {
     opening: Shared<PlainWorld>,
-    entries: Vec<Answer>,
+    entries: History,
     closing: Shared<PlainWorld>,
 }
 
@@ -27,9 +27,9 @@ impl Model for Segment {
 
     ghost Value = { HistoryPart };
 
-    ghost view = { λ s. record { opening = s.opening; entries = s.entries.items; closing = s.closing } };
+    ghost view = { λ s. record { opening = s.opening; entries = s.entries.entries; closing = s.closing } };
 
-    ghost invariant = { λ s. IsHistoryPart (record { opening = s.opening; entries = s.entries.items; closing = s.closing }) };
+    ghost invariant = { λ s. IsHistoryPart (record { opening = s.opening; entries = s.entries.entries; closing = s.closing }) };
 }
 
 impl Segment {
@@ -40,11 +40,11 @@ impl Segment {
     /// The part between two worlds.
     pub(crate) fn of(
         opening: Shared<PlainWorld>,
-        entries: Vec<Answer>,
+        entries: History,
         closing: Shared<PlainWorld>,
     ) -> Segment
-        requires { IsHistoryPart (record { opening = opening; entries = entries.items; closing = closing }) }
-        ensures { result ≡ record { opening = opening; entries = entries.items; closing = closing } }
+        requires { IsHistoryPart (record { opening = opening; entries = entries.entries; closing = closing }) }
+        ensures { result ≡ record { opening = opening; entries = entries.entries; closing = closing } }
     {
         Segment {
             opening,
@@ -73,15 +73,15 @@ impl Segment {
     }
 
     /// The entries, oldest first. Their numbers rise by one.
-    pub fn entries(&self) -> &[Answer]
-        ensures { result.now ≡ self.now.entries }
+    pub fn entries(&self) -> &History
+        ensures { result.now.entries ≡ self.now.entries }
     {
-        self.entries.as_slice()
+        &self.entries
     }
 
     /// Takes the entries out, oldest first.
-    pub fn into_entries(self) -> Vec<Answer>
-        ensures { result.items ≡ self.entries }
+    pub fn into_entries(self) -> History
+        ensures { result.entries ≡ self.entries }
     {
         let Segment {
             opening: _,

@@ -33,7 +33,7 @@ use Rattle.hub.specs.contracts.hub.Hub as hub
 use Rattle.policy_ready.proofs.ready.Ready.TheSendSync as ready
 use Rattle.world_sessions.proofs.sessions.Sessions.TheSendSync as sessions
 use Rattle.world.proofs.Handed.{caches_send, routes_send}
-use Rattle.events.proofs.answer.Entry.TheSendSync as entry
+use Rattle.hub.proofs.Handed.{history_send}
 use Rattle.base.proofs.shared.Shared.TheSendSync as shared
 use Rattle.world.proofs.plain.PlainWorld.TheSendSync as plain
 use Rattle.shared_hub.specs.contracts.desk.desk.Desk as desk
@@ -86,7 +86,7 @@ world_out_send t = search (sendable, t) depth 6
 
 hub_send : IsSend world.the_row → IsSend hub_in.the_row
 hub_send t = recorded_send _ _ _ (hub_in.the_type).to_one (struct_send (shape hub_in.the_type)
-    (global.the_field_send, (t, (search (sendable, shared.the_send, plain.the_send, plain.the_sync) depth 6, (search sendable, (search (sendable, crosses, shared.the_send, entry.the_send, entry.the_sync) depth 12, tt))))))
+    (global.the_field_send, (t, (search (sendable, shared.the_send, plain.the_send, plain.the_sync) depth 6, (search sendable, (history_send, tt))))))
 
 hub_out_send : IsSend hub_in.the_row → IsSend hub.the_row
 hub_out_send t = search (sendable, t) depth 6

@@ -9,7 +9,7 @@ ghost use Rattle.shared_hub.specs.Audits.{Stands, HasNone, IsFound, IsJoined, Ar
 use crate::Receipt;
 use base::Alike;
 use hub::joins::joins;
-use hub::{Answer, Hub, Segment};
+use hub::{Answer, History, Hub, Segment};
 
 /// Why a closing audit is refused.
 #[derive(Clone, Copy, Debug, PartialEq, Eq)]
@@ -97,8 +97,8 @@ fn tail_entry(hub: &Hub, number: u64) -> Option<&Answer>
 }
 
 /// The entry with a number, among those that come after a number.
-fn entry_after(before: u64, entries: &[Answer], number: u64) -> Option<&Answer>
-    ensures { option_copied result ≡ entry_after before entries.now number }
+fn entry_after(before: u64, entries: &History, number: u64) -> Option<&Answer>
+    ensures { option_copied result ≡ entry_after before entries.now.entries number }
 {
     if before < number {
         entries.get((number - (before + 1)) as usize)

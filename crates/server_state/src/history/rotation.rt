@@ -2,7 +2,8 @@ ghost use Rattle.std.specs.Prelude.{◌≡◌};
 
 use crate::history::kept::{Added, Kept, Look};
 use crate::history::own::own_of;
-use events::{Answer, Outcome};
+use events::Answer;
+use records::History;
 use std::alloc::Global;
 use std::marker::Model;
 
@@ -12,25 +13,13 @@ const TOGETHER: usize = 32;
 /// How many bytes a port counts until others are told of them.
 const TOLD: u64 = 64 * 1024;
 
-/// Reads each entry where it says what it owns, so that its memory is fetched. It was last used long ago: so all is fetched
-/// side by side, where drops would wait for one after the other.
-fn read_each(entries: &[Answer]) -> u64 {
-    let mut read = 0;
-    for entry in entries {
-        let entry = entry.get();
-        read ^= entry.number ^ entry.event.now;
-        read ^= u64::from(matches!(entry.outcome, Outcome::Closed));
-    }
-    read
-}
-
 /// When the history is rotated, and which of its entries are still to be dropped. What it has counted and not told of is below 64 KiB.
 pub struct Rotation {
     half: u64,
     /// The next number at which the history is due; 0 before the first look.
     due: u64,
     /// What a rotation handed out and is still to be dropped.
-    spent: Vec<Answer>,
+    spent: History,
     /// How many of the blocks that were dropped last no new entry has yet.
     at_hand: usize,
     /// What was read of those, so that the reads are made.
@@ -64,7 +53,7 @@ impl Model for Rotation {
 
     ghost Value = { Rotating };
 
-    ghost view = { λ r. record { half = r.half; due = r.due; spent = r.spent.items; at_hand = r.at_hand; uncounted = r.uncounted; rotations = r.rotations; tries = r.tries } };
+    ghost view = { λ r. record { half = r.half; due = r.due; spent = r.spent.entries; at_hand = r.at_hand; uncounted = r.uncounted; rotations = r.rotations; tries = r.tries } };
 
     ghost invariant = { λ r. r.uncounted < 65536 };
 }
@@ -81,7 +70,7 @@ impl Rotation {
         Rotation {
             half: (history / 2) as u64,
             due: 0,
-            spent: Vec::new(alloc),
+            spent: History::new(alloc),
             at_hand: 0,
             read: 0,
             uncounted: 0,
@@ -120,7 +109,7 @@ impl Rotation {
         ensures { (rotations : ℕ) × (self.new ≡ record self.old { spent = cond (nat_lt (self.old.rotations + 1) rotations) [] self.old.spent }) }
     {
         if kept.rotations() > self.rotations.saturating_add(1) {
-            self.spent.clear();
+            self.spent.truncate(0);
         }
     }
 
@@ -135,8 +124,8 @@ impl Rotation {
     }
 
     /// Takes over the entries that a rotation handed out, and drops what is left of those of the rotation before.
-    pub fn take_over(&mut self, entries: Vec<Answer>, kept: &Kept)
-        ensures { (rotations : ℕ) × (self.new ≡ taken_over entries.items rotations self.old) }
+    pub fn take_over(&mut self, entries: History, kept: &Kept)
+        ensures { (rotations : ℕ) × (self.new ≡ taken_over entries.entries rotations self.old) }
     {
         self.spent = entries;
         self.rotations = kept.note_rotation();
@@ -183,7 +172,7 @@ impl Rotation {
             return;
         }
         let left = self.spent.len().saturating_sub(TOGETHER);
-        self.read = read_each(&self.spent.as_slice()[left..]);
+        self.read = self.spent.read_from(left);
         self.spent.truncate(left);
         self.at_hand = TOGETHER - 1;
     }

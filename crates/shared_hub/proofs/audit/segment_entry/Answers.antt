@@ -12,5 +12,5 @@ returns c =
     let p = c.args.segment.now in
     look_up p.opening p.entries p.closing c.args.number (option_copied c.entry_after.result) c.use_invariant.ensures.legal
     (c.entry_after.ensures
-    ∙ ap (λ (b : ℕ). entry_after b c.entries.result.now c.args.number) (c.number.ensures ∙ ap (λ (w : World). w.number) c.opening.ensures)
+    ∙ ap (λ (b : ℕ). entry_after b c.entries.result.now.entries c.args.number) (c.number.ensures ∙ ap (λ (w : World). w.number) c.opening.ensures)
     ∙ ap (λ (l : List Entry). entry_after p.opening.number l c.args.number) c.entries.ensures)

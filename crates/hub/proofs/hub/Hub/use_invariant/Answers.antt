@@ -15,4 +15,4 @@ returns-clause-opening c =
 pub returns-clause-counts : goal.returns-clause-counts
 returns-clause-counts c =
     let P : State → Type 0 = λ s. (first : World) (past : List Entry) → IsOpening first → IsLegalRun first past s.opening → All (IsCounted (past ++ s.entries)) s.world.subscriptions in
-    subst P c.self.view_is (λ first past opening before. counted first past c.self.inside.opening c.self.inside.entries.items c.self.inside.world opening before c.self.invariant.1)
+    subst P c.self.view_is (λ first past opening before. counted first past c.self.inside.opening c.self.inside.history.entries c.self.inside.world opening before c.self.invariant.1)
