@@ -22,7 +22,8 @@ pub fn is_fresh(conn: &Conn) -> bool
 
 /// Returns whether too much may be kept of a fresh client.
 fn is_beyond(conn: &Conn) -> bool
-    ensures { result ≡ false → IsBounded conn.now }
+    ensures bounded { result ≡ false → IsBounded conn.now }
+    ensures fresh { is_fresh conn.now.stage ≡ false → result ≡ false }
 {
     is_fresh(conn) && conn.buffered() > MOST
 }
@@ -30,7 +31,8 @@ fn is_beyond(conn: &Conn) -> bool
 impl Connection {
     /// Returns its turn. Where too much is kept of a fresh client, it writes the client an error and returns `Closed`.
     pub fn close_if_beyond(&self, alloc: Global, turn: Turn) -> Turn
-        ensures { is_over result ≡ false → IsBounded self.now.client.conn }
+        ensures bounded { is_over result ≡ false → IsBounded self.now.client.conn }
+        ensures fresh { is_fresh self.now.client.conn.stage ≡ false → result ≡ turn }
     {
         if turn.is_over() || !is_beyond(self.client.conn()) {
             return turn;

@@ -1,5 +1,5 @@
 //! What a connection reads.
-ghost use Rattle.std.specs.Prelude.{◌≡◌, ◌<◌, length};
+ghost use Rattle.std.specs.Prelude.{◌≡◌, ◌<◌, length, true};
 
 use crate::connection::Connection;
 use crate::counted::Counted;
@@ -32,8 +32,10 @@ impl Connection {
         now: u64,
     ) -> ConnectionTurn
         requires { 0 < length buf.old }
-        ensures { P.place port.new ≡ P.place port.old }
+        ensures place { P.place port.new ≡ P.place port.old }
+        ensures let_on { self.new.is_let_on ≡ true → self.old.is_let_on ≡ true }
     {
+        let was_let_on = self.is_let_on;
         let buffered = self.client.conn().buffered();
         let mut reader = Counted::new(NonBlocking::new(&self.socket));
         let writes = NonBlocking::new(&self.socket);
@@ -44,7 +46,7 @@ impl Connection {
             .serve(port, words, &mut reader, &mut writer, context);
         let read = reader.count();
         self.note_written(now);
-        self.is_let_on = self.is_let_on && turn == Turn::Waits;
+        self.is_let_on = was_let_on && turn == Turn::Waits;
         ConnectionTurn {
             turn,
             buffered,
