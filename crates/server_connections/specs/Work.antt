@@ -1,6 +1,6 @@
 -- Which connections have work, and which kind.
 use Rattle.std.specs.Option.{unwrap_or}
-use Rattle.std.specs.Prelude.{◌≡◌, ◌<◌, ◌&&◌, ◌||◌, ℕ, List, length, find, Bool, true, false, not, Option, None, Some, is_some, min, nat_eq}
+use Rattle.std.specs.Prelude.{◌≡◌, ◌≢◌, ◌<◌, ◌&&◌, ◌||◌, ⊤, ℕ, List, [], length, find, Bool, true, false, not, Option, None, Some, is_some, min, nat_eq}
 use Rattle.slab.specs.Slab.{Slab, get}
 use Rattle.server_socket.specs.Connections.{is_stuck, may_read}
 use Rattle.server_socket.specs.Queues.{IsPut}
@@ -10,6 +10,8 @@ use Rattle.server_socket.specs.declared.connection.Queued.{Queued}
 use Rattle.server_socket.specs.pacing.Due.{barred, may_wait}
 use Rattle.server_connections.specs.declared.connections.Connections.{Connections}
 use Rattle.server_connections.specs.declared.fresh.Fresh.{Fresh}
+use Rattle.server_connections.specs.declared.giving.GivesWay.{GivesWay}
+use Rattle.server_connections.specs.declared.giving.GivesWay.TheVariants as gives
 use Rattle.server_connections.specs.declared.lingering.Lingering.{Lingering}
 use Rattle.server_connections.specs.declared.turns.Reads.{Reads}
 use Rattle.server_connections.specs.declared.turns.Reads.TheVariants as reads
@@ -67,6 +69,20 @@ hears_input told (Some it) = it.readable || told
 abbrev pub is_pressing : ℕ → Option Connection → Bool
 is_pressing many None = false
 is_pressing many (Some it) = not (may_wait it.due many)
+
+-- the worker has it, and it lingers
+abbrev pub lingers_of : Option Connection → Bool
+lingers_of None = false
+lingers_of (Some it) = it.lingers
+
+-- Nothing is still to be written to its client, if the worker has it: nothing is kept, and it isn't among those to be written to.
+abbrev pub IsWrittenTo : Option Connection → Type 0
+IsWrittenTo None = ⊤
+IsWrittenTo (Some it) = (it.client.kept ≢ [] → ⊥) × (it.queued.flush ≡ false)
+
+-- the same of all of a worker's connections
+abbrev pub IsAllWritten : Slab Connection → Type 0
+IsAllWritten slab = (key : ℕ) → key < slab.capacity → IsWrittenTo (get slab key)
 
 -- the worker has it, and its frames wait for a receiver
 abbrev pub waits : Option Connection → Bool
@@ -135,3 +151,9 @@ first_lingering slab entries = find (λ entry. is_lingering entry (get slab entr
 
 abbrev pub first_fresh : Slab Connection → List Fresh → Option Fresh
 first_fresh slab entries = find (λ entry. is_still_fresh entry (get slab entry.key)) entries
+
+-- which connection gives way, by the first that lingers and the first that is fresh
+abbrev pub first_to_go : Option Lingering → Option Fresh → Option GivesWay
+first_to_go (Some it) fresh = Some (gives.Lingering it.key)
+first_to_go None (Some it) = Some (gives.Fresh it.key)
+first_to_go None None = None

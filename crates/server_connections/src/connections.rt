@@ -1,4 +1,4 @@
-ghost use Rattle.std.specs.Prelude.{◌≡◌, ◌≢◌};
+ghost use Rattle.std.specs.Prelude.{◌≡◌, ◌≢◌, false};
 
 use crate::fresh::Fresh;
 use crate::lingering::Lingering;
@@ -66,6 +66,7 @@ impl Drop for Connections {
 impl Connections {
     ghost use Rattle.std.specs.Prelude.{ℕ, None, is_some};
     ghost use Rattle.slab.specs.Slab.{get};
+    ghost use Rattle.server_connections.specs.Work.{IsAllWritten, IsWrittenTo};
 
     /// Returns a table without connections. `keys` are the keys of a hash map, which clients can't know; `outbox` is how many
     /// deliveries may wait for a connection. It takes no memory.
@@ -143,9 +144,29 @@ impl Connections {
 
     /// Returns whether some client is still to be written to: bytes of an earlier call wait for its socket, or it is in the queue
     /// `flush`.
-    pub fn has_unwritten(&self) -> bool {
-        self.slab
-            .iter()
-            .any(|(_, it)| it.client.waits() || it.queued.flush)
+    pub fn has_unwritten(&self) -> bool
+        ensures none { result ≡ false → IsAllWritten self.now.slab }
+    {
+        for key in 0..self.slab.capacity() {
+            if self.is_unwritten(key) {
+                return true;
+            }
+        }
+        false
+    }
+
+    /// Returns whether the worker has a connection whose client is still to be written to.
+    fn is_unwritten(&self, key: usize) -> bool
+        ensures { result ≡ false → IsWrittenTo (get self.now.slab key) }
+    {
+        match self.slab.get(key) {
+            None => false,
+            Some(it) => {
+                if it.client.waits() {
+                    return true;
+                }
+                it.queued.flush
+            }
+        }
     }
 }

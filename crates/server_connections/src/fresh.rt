@@ -2,6 +2,7 @@
 ghost use Rattle.std.specs.Prelude.{◌≡◌, false};
 
 use crate::connections::Connections;
+use crate::giving::GivesWay;
 use server_socket::is_fresh;
 use server_socket::turns::Turn;
 
@@ -16,16 +17,18 @@ pub struct Fresh {
 }
 
 impl Connections {
-    ghost use Rattle.std.specs.Prelude.{IfSome, true};
+    ghost use Rattle.std.specs.Prelude.{IfSome, Some, true};
     ghost use Rattle.slab.specs.Slab.{get};
     ghost use Rattle.server_socket.specs.turns.Turns.{is_over};
-    ghost use Rattle.server_socket.specs.Fresh.{IsBounded};
-    ghost use Rattle.server_connections.specs.Work.{first_fresh, is_still_fresh};
+    ghost use Rattle.server_socket.specs.Fresh.{IsBounded, is_fresh};
+    ghost use Rattle.server_socket.specs.declared.connection.Connection.{Connection};
+    ghost use Rattle.server_connections.specs.Work.{first_fresh, first_lingering, first_to_go, is_still_fresh};
 
     /// Returns a connection's turn. Where too much is kept of a client without an accepted CONNECT, it writes the client an
     /// error and returns `Closed`.
     pub fn close_if_beyond(&self, key: usize, turn: Turn) -> Turn
-        ensures { is_over result ≡ false → IfSome (get self.entry.now.slab key) (λ it. IsBounded it.client.conn) }
+        ensures bounded { is_over result ≡ false → IfSome (get self.entry.now.slab key) (λ it. IsBounded it.client.conn) }
+        ensures fresh { (it : Connection) → get self.entry.now.slab key ≡ Some it → is_fresh it.client.conn.stage ≡ false → result ≡ turn }
     {
         match self.slab.get(key) {
             None => turn,
@@ -77,5 +80,20 @@ impl Connections {
             drop(self.fresh.pop_front());
         }
         None
+    }
+
+    /// Returns which connection gives way to a new one: that which has lingered longest, else that which has waited longest
+    /// without an accepted CONNECT.
+    pub fn first_to_go(&mut self) -> Option<GivesWay>
+        ensures first { result ≡ first_to_go (first_lingering self.old.slab self.old.lingering.items) (first_fresh self.old.slab self.old.fresh.items) }
+        ensures rest { self.new ≡ record self.old { lingering = self.new.lingering; fresh = self.new.fresh } }
+    {
+        match self.first_lingering() {
+            Some(it) => Some(GivesWay::Lingering(it.key)),
+            None => match self.first_fresh() {
+                Some(it) => Some(GivesWay::Fresh(it.key)),
+                None => None,
+            },
+        }
     }
 }

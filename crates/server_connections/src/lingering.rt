@@ -19,12 +19,14 @@ pub struct Lingering {
 impl Connections {
     ghost use Rattle.std.specs.Prelude.{IfSome, true};
     ghost use Rattle.slab.specs.Slab.{get};
-    ghost use Rattle.server_connections.specs.Work.{first_lingering, is_lingering};
+    ghost use Rattle.server_connections.specs.Work.{first_lingering, is_lingering, lingers_of};
 
     /// Ends the writing to a connection that is over, and lets its socket linger. It stays until the peer has ended or failed,
     /// for two seconds at most, and what comes meanwhile is read and dropped. Returns whether it stays: without memory, or
     /// where its socket has failed, it is to be removed.
-    pub fn linger(&mut self, key: usize, now: u64) -> bool {
+    pub fn linger(&mut self, key: usize, now: u64) -> bool
+        ensures stays { result ≡ true → lingers_of (get self.new.slab key) ≡ true }
+    {
         let until = now.saturating_add(LINGER);
         let Some(it) = self.slab.get_mut(key) else {
             return false;

@@ -10,7 +10,7 @@ const LOOKS: u32 = 100;
 impl Connections {
     ghost use Rattle.std.specs.Prelude.{◌-◌, ℕ, []};
     ghost use Rattle.slab.specs.Slab.{get};
-    ghost use Rattle.server_connections.specs.Work.{are_idle, has_input, hears_input, is_pressing, is_readable, mark_cut, mark_flush, mark_pressing, mark_ready, IsQueued, IsQueuedIf};
+    ghost use Rattle.server_connections.specs.Work.{are_idle, has_input, hears_input, is_pressing, is_readable, lingers_of, mark_cut, mark_flush, mark_pressing, mark_ready, IsQueued, IsQueuedIf};
 
     /// Begins a round.
     pub fn begin_round(&mut self)
@@ -49,6 +49,7 @@ impl Connections {
         ensures queue { IsQueuedIf (is_readable (get self.old.slab key)) (λ q. q.ready) mark_ready key (get self.old.slab key) self.old.ready (get self.new.slab key) self.new.ready }
         ensures rest { self.new ≡ record self.old { looks = 100; slab = self.new.slab; ready = self.new.ready } }
         ensures input { has_input (get self.new.slab key) ≡ has_input (get self.old.slab key) }
+        ensures lingers { lingers_of (get self.new.slab key) ≡ lingers_of (get self.old.slab key) }
         ensures others { (other : ℕ) → other ≢ key → get self.new.slab other ≡ get self.old.slab other }
     {
         self.looks = LOOKS;
