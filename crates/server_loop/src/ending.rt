@@ -1,6 +1,9 @@
 //! How connections end, and how a worker does.
+ghost use Rattle.std.specs.Prelude.{◌≡◌};
+
 use crate::worker::Worker;
 use mio::Events;
+use server_connections::Stalled;
 use server_log::Slowness;
 use server_socket::pacing::Slice;
 use server_socket::turns::Turn;
@@ -14,7 +17,31 @@ use worker_port::WorkerPort;
 /// How long the end of a server may take, in milliseconds.
 const GRACE: u64 = 2000;
 
+/// What came of the end of a connection.
+#[derive(Clone, Copy)]
+pub(crate) enum Ended {
+    /// The worker has no such connection.
+    Nobody,
+    /// Its session can't be closed yet: that is tried again.
+    Later(Stalled),
+    /// Its session is closed, and its socket is let go or lingers.
+    Closed,
+}
+
+/// Why a worker writes no more.
+#[derive(Clone, Copy)]
+pub(crate) enum WrittenOut {
+    /// All is written.
+    All,
+    /// It has taken so many milliseconds.
+    Late(u64),
+}
+
 impl<'a, P: WorkerPort + Drop, R: Wait + Clock, W: Words + Drop> Worker<'a, P, R, W> {
+    ghost use Rattle.std.specs.Prelude.{None, true};
+    ghost use Rattle.slab.specs.Slab.{get};
+    ghost use Rattle.server_loop.specs.Ending.{is_let_go, IsEnded, IsWrittenOut};
+
     /// Closes a connection whose turn is over. Where the server closes it, its socket is to linger.
     pub(crate) fn close(&mut self, key: usize, turn: Turn) {
         if let Some(it) = self.connections.slab.get_mut(key) {
@@ -50,8 +77,18 @@ impl<'a, P: WorkerPort + Drop, R: Wait + Clock, W: Words + Drop> Worker<'a, P, R
     /// Ends a connection: its session is closed, and then its socket. Where the session can't be closed yet, it is tried
     /// again.
     pub(crate) fn end(&mut self, key: usize) {
+        if let Ended::Closed = self.end_session(key) {
+            self.leave_freed();
+        }
+    }
+
+    /// Closes a connection's session, and then its socket, which is let go or lingers. Where the session can't be closed yet, the
+    /// connection is among those whose turn could not be ended.
+    fn end_session(&mut self, key: usize) -> Ended
+        ensures { IsEnded key (get self.old.connections.slab key) result (get self.new.connections.slab key) }
+    {
         let Some(it) = self.connections.slab.get_mut(key) else {
-            return;
+            return Ended::Nobody;
         };
         let conn = it.number();
         let is_to_linger = it.is_to_linger;
@@ -59,18 +96,28 @@ impl<'a, P: WorkerPort + Drop, R: Wait + Clock, W: Words + Drop> Worker<'a, P, R
         let stall = it.client.end(&mut self.port, self.now);
         self.tell_turn(key);
         if stall.is_some() {
-            let _ = self.connections.stalled.add(key);
-            return;
+            let stalled = self.connections.stall(key);
+            return Ended::Later(stalled);
         }
         self.connections.forget(conn);
-        if !is_to_linger || !self.connections.linger(key, self.now) {
-            self.remove(key);
+        self.let_go(key, is_to_linger);
+        Ended::Closed
+    }
+
+    /// Lets a connection linger where it is to, else lets it go.
+    fn let_go(&mut self, key: usize, is_to_linger: bool)
+        ensures { is_let_go (get self.new.connections.slab key) ≡ true }
+    {
+        if is_to_linger && self.connections.linger(key, self.now) {
+            return;
         }
-        self.leave_freed();
+        self.remove(key);
     }
 
     /// Lets a connection go, and its socket.
-    pub(crate) fn remove(&mut self, key: usize) {
+    pub(crate) fn remove(&mut self, key: usize)
+        ensures { get self.new.connections.slab key ≡ None }
+    {
         self.forget_party(key);
         if self.connections.remove(key) {
             self.state.note_closed();
@@ -97,13 +144,15 @@ impl<'a, P: WorkerPort + Drop, R: Wait + Clock, W: Words + Drop> Worker<'a, P, R
     /// Ends the worker: nothing more is read, what was accepted is written out, and then is to arrive.
     pub(crate) fn finish(&mut self, events: &mut Events) {
         self.state.note_finished();
-        self.write_out(events);
+        let _ = self.write_out(events);
         self.linger_all();
         self.see_off(events);
     }
 
     /// Writes out what was accepted, for two seconds at most.
-    fn write_out(&mut self, events: &mut Events) {
+    fn write_out(&mut self, events: &mut Events) -> WrittenOut
+        ensures { IsWrittenOut result self.new.connections.slab }
+    {
         let begin = millis(self.rt);
         for _ in self.rt.forever() {
             let have_finished = self.state.have_finished();
@@ -111,15 +160,19 @@ impl<'a, P: WorkerPort + Drop, R: Wait + Clock, W: Words + Drop> Worker<'a, P, R
             self.take_in();
             self.slice = Slice::whole();
             self.drain_queued();
-            if have_finished && !self.connections.has_unwritten() {
-                return;
+            if have_finished {
+                if !self.connections.has_unwritten() {
+                    return WrittenOut::All;
+                }
             }
-            if millis(self.rt).saturating_sub(begin) > GRACE {
-                return;
+            let taken = millis(self.rt).saturating_sub(begin);
+            if taken > GRACE {
+                return WrittenOut::Late(taken);
             }
             let may_wait = self.connections.flush.is_empty();
             self.look(events, may_wait);
         }
+        WrittenOut::Late(u64::MAX)
     }
 
     /// Notes what sockets tell at once, or within five milliseconds.

@@ -1,11 +1,32 @@
 //! What workers leave in each other's mailboxes.
+ghost use Rattle.std.specs.Prelude.{◌≡◌, length};
+ghost use Rattle.server_state.specs.mail.Owners.{owner};
+
 use crate::worker::Worker;
-use server_state::mail::{Arrival, Intake, Mail, owner_of};
+use server_state::mail::{Arrival, Intake, Mail, Mailbox, owner_of};
 use session_conn::Words;
 use std::mem;
 use std::sync::Wait;
 use std::time::Clock;
 use worker_port::WorkerPort;
+
+/// That a slow consumer's number was left with its worker, which is to close it. Who leaves it makes this, and nobody else.
+#[derive(Clone, Copy)]
+pub(crate) struct LeftSlow {
+    conn: u64,
+    worker: usize,
+}
+
+/// Asks the worker of a slow consumer to close it.
+fn leave_slow<R: Wait>(rt: &R, mailboxes: &[Mailbox], conn: u64) -> LeftSlow
+    ensures { result ≡ record { conn = conn; worker = owner conn (length mailboxes.now) } }
+{
+    let worker = owner_of(conn, mailboxes.len());
+    if let Some(mailbox) = mailboxes.get(worker) {
+        mailbox.leave_slow(rt, conn);
+    }
+    LeftSlow { conn, worker }
+}
 
 impl<'a, P: WorkerPort + Drop, R: Wait + Clock, W: Words + Drop> Worker<'a, P, R, W> {
     /// Empties the worker's mailbox, and follows what was in it.
@@ -56,11 +77,10 @@ impl<'a, P: WorkerPort + Drop, R: Wait + Clock, W: Words + Drop> Worker<'a, P, R
     }
 
     /// Asks the worker of a slow consumer to close it.
-    pub(crate) fn leave_slow(&mut self, conn: u64) {
-        let mailboxes = self.state.mailboxes;
-        if let Some(mailbox) = mailboxes.get(owner_of(conn, mailboxes.len())) {
-            mailbox.leave_slow(self.rt, conn);
-        }
+    pub(crate) fn leave_slow(&mut self, conn: u64) -> LeftSlow
+        ensures { result.conn ≡ conn }
+    {
+        leave_slow(self.rt, self.state.mailboxes, conn)
     }
 
     /// Leaves all mail where publishers were let on.

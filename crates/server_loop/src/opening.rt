@@ -1,6 +1,7 @@
 //! How connections begin, and which of them give way to new ones.
 use crate::accepting::Accepted;
 use crate::worker::Worker;
+use server_connections::GivesWay;
 use server_state::mail::Arrival;
 use session_conn::Words;
 use std::sync::Wait;
@@ -66,10 +67,10 @@ impl<'a, P: WorkerPort + Drop, R: Wait + Clock, W: Words + Drop> Worker<'a, P, R
 
     /// Removes the connection that has lingered longest, else ends the one that has waited longest without an accepted CONNECT.
     fn go_first(&mut self) {
-        if let Some(it) = self.connections.first_lingering() {
-            self.remove(it.key);
-        } else if let Some(it) = self.connections.first_fresh() {
-            self.end(it.key);
+        match self.connections.first_to_go() {
+            None => {}
+            Some(GivesWay::Lingering(key)) => self.remove(key),
+            Some(GivesWay::Fresh(key)) => self.end(key),
         }
     }
 }

@@ -1,4 +1,8 @@
 //! The turns of connections: which comes next, what it gives, and where its frames wait.
+ghost use Rattle.std.specs.Prelude.{◌≡◌};
+ghost use Rattle.server_loop.specs.Turns.{is_kept, kept_by};
+
+use crate::mail::LeftSlow;
 use crate::worker::Worker;
 use server_connections::Reads;
 use server_log::What;
@@ -31,7 +35,45 @@ const TOO_MUCH: &[u8] = b"Authorization Violation";
 /// After how long a turn that could not be ended is tried again, in milliseconds.
 const RETRY: u64 = 10;
 
+/// Where a connection stays whose frame is held back.
+#[derive(Clone, Copy)]
+pub(crate) enum Aside {
+    /// It waits for a receiver, or for a moment.
+    Held,
+    /// It waits until a slow consumer is closed, whose worker is asked to close it.
+    Slow(LeftSlow),
+    /// It waits for its share of another round.
+    Cut,
+    /// It waits until it has had what waits for it.
+    Barred,
+}
+
+/// Returns whether a turn has its entries keep what was read: frames of it were entered, or will be.
+fn is_kept(served: ConnectionTurn, has_entered: bool) -> bool
+    ensures { result ≡ is_kept served has_entered }
+{
+    served.read > 0 && (served.frames_wait || has_entered)
+}
+
+/// Returns how many bytes a turn has its entries keep beside their own: a piece that was read, and what was buffered before it,
+/// since the history keeps both. 0 where it has them keep nothing.
+fn kept_of(served: ConnectionTurn, has_entered: bool) -> usize
+    ensures { result ≡ kept_by (is_kept served has_entered) served.buffered served.read }
+{
+    if is_kept(served, has_entered) {
+        served.buffered.saturating_add(served.read)
+    } else {
+        0
+    }
+}
+
 impl<'a, P: WorkerPort + Drop, R: Wait + Clock, W: Words + Drop> Worker<'a, P, R, W> {
+    ghost use Rattle.std.specs.Prelude.{IfSome, false};
+    ghost use Rattle.slab.specs.Slab.{get};
+    ghost use Rattle.server_socket.specs.Fresh.{IsBounded};
+    ghost use Rattle.server_socket.specs.turns.Turns.{is_over};
+    ghost use Rattle.server_loop.specs.Turns.{IsAside};
+
     /// Gives connections their turns of a round: first those with something to read, as far as the round's share of deliveries
     /// goes, and then those that were cut short, at least one. So who does little never waits for those who do much.
     pub(crate) fn take_turns(&mut self) {
@@ -53,7 +95,7 @@ impl<'a, P: WorkerPort + Drop, R: Wait + Clock, W: Words + Drop> Worker<'a, P, R
                 break;
             };
             match self.connections.begin_ready(key) {
-                Reads::Serve => self.serve(key),
+                Reads::Serve => self.give_turn(key),
                 Reads::Drop => self.drop_input(key),
                 Reads::Nothing => {}
             }
@@ -72,18 +114,32 @@ impl<'a, P: WorkerPort + Drop, R: Wait + Clock, W: Words + Drop> Worker<'a, P, R
                 break;
             };
             if self.connections.begin_cut(key) {
-                self.serve(key);
+                self.give_turn(key);
             }
             self.take_in();
             self.drain_pressing();
         }
     }
 
-    /// Gives a connection one turn, and follows what came of it. Mail is left about what it made pending.
-    fn serve(&mut self, key: usize) {
+    /// Gives a connection one turn, and follows how it ended.
+    fn give_turn(&mut self, key: usize) {
+        match self.serve(key) {
+            None => {}
+            Some(Turn::Stalled(Stall::Held)) => {
+                let _ = self.follow_held(key);
+            }
+            Some(turn) => self.after(key, turn),
+        }
+    }
+
+    /// Gives a connection one turn, if the worker has it, and returns how it ended. Mail is left about what it made pending. Where
+    /// the turn isn't over, its client has an accepted CONNECT, or no more than 8,192 bytes of it are kept.
+    fn serve(&mut self, key: usize) -> Option<Turn>
+        ensures bounded { IfSome result (λ turn. is_over turn ≡ false → IfSome (get self.new.connections.slab key) (λ it. IsBounded it.client.conn)) }
+    {
         self.now = self.state.now(self.rt);
         let Some(served) = self.serve_turn(key) else {
-            return;
+            return None;
         };
         self.count_turn(key);
         self.connections.follow_writes(key);
@@ -93,11 +149,9 @@ impl<'a, P: WorkerPort + Drop, R: Wait + Clock, W: Words + Drop> Worker<'a, P, R
         let turn = self.connections.close_if_beyond(key, served.turn);
         if turn != served.turn {
             self.tell_of(key, What::Limit(TOO_MUCH));
+            return Some(Turn::Closed);
         }
-        match turn {
-            Turn::Stalled(Stall::Held) => self.follow_held(key),
-            _ => self.after(key, turn),
-        }
+        Some(turn)
     }
 
     /// Gives a connection one turn: frames that wait go on, or a piece is read.
@@ -128,8 +182,9 @@ impl<'a, P: WorkerPort + Drop, R: Wait + Clock, W: Words + Drop> Worker<'a, P, R
     /// Counts a piece that was read, and what was buffered before it, where frames of it were entered or will be: the history
     /// keeps both then.
     fn keep(&mut self, served: ConnectionTurn) {
-        if served.read > 0 && (served.frames_wait || self.port.has_entered()) {
-            self.port.keep(served.buffered.saturating_add(served.read));
+        let bytes = kept_of(served, self.port.has_entered());
+        if bytes > 0 {
+            self.port.keep(bytes);
         }
     }
 
@@ -144,16 +199,28 @@ impl<'a, P: WorkerPort + Drop, R: Wait + Clock, W: Words + Drop> Worker<'a, P, R
     }
 
     /// Sets a connection aside whose frame is held back: it waits for a receiver, for its share of another round, or until it
-    /// has had what waits for it.
-    fn follow_held(&mut self, key: usize) {
+    /// has had what waits for it. The worker of a slow receiver is asked to close it.
+    fn follow_held(&mut self, key: usize) -> Aside
+        ensures aside { IsAside (P.course self.old.port).why result }
+    {
         match self.port.why() {
-            Some(Why::Receiver(until)) => self.hold(key, until),
-            Some(Why::Slow(conn)) => {
-                self.leave_slow(conn);
-                self.hold(key, self.now.saturating_add(CLOSING));
+            Some(Why::Receiver(until)) => {
+                self.hold(key, until);
+                Aside::Held
             }
-            Some(Why::Share) => self.connections.queue_cut(key),
-            None => self.bar(key),
+            Some(Why::Slow(conn)) => {
+                let left = self.leave_slow(conn);
+                self.hold(key, self.now.saturating_add(CLOSING));
+                Aside::Slow(left)
+            }
+            Some(Why::Share) => {
+                self.connections.queue_cut(key);
+                Aside::Cut
+            }
+            None => {
+                self.bar(key);
+                Aside::Barred
+            }
         }
     }
 
