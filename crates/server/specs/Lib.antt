@@ -1,2 +1,3 @@
+pub mod Policies
 pub mod Serve
 pub mod policy_source

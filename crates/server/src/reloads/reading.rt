@@ -1,4 +1,9 @@
 //! How a policy is read and made ready: a server's first, and each later one.
+ghost use Rattle.std.specs.Prelude.{◌≡◌, ◌++◌, ◌∷◌, [], IfSome, Some};
+ghost use Rattle.policy_notes.specs.Notes.{AreNotes};
+ghost use Rattle.policy_text.specs.reload.Fault.{fault_line};
+ghost use Rattle.server.specs.Policies.{IsNext, IsOfText};
+
 use crate::policy_source::{Next, Policies};
 use policy_notes::{Notes, notes_of};
 use policy_ready::Ready;
@@ -32,7 +37,14 @@ pub fn next_policy<P: Policies>(
     policies: &mut P,
     descriptors: &Mutex<()>,
 ) -> NextPolicy {
-    match policies.next(descriptors) {
+    next_of(alloc, policies.next(descriptors))
+}
+
+/// Makes what came of the policies ready, where it is a text.
+fn next_of(alloc: Global, next: Next) -> NextPolicy
+    ensures { IsNext next result }
+{
+    match next {
         Next::Text(text) => ready_policy(alloc, text.as_slice()),
         Next::Later => NextPolicy::Later,
         Next::End => NextPolicy::End,
@@ -42,7 +54,9 @@ pub fn next_policy<P: Policies>(
 }
 
 /// Makes a policy's text ready, or returns the line that tells its first fault.
-fn ready_policy(alloc: Global, text: &[u8]) -> NextPolicy {
+fn ready_policy(alloc: Global, text: &[u8]) -> NextPolicy
+    ensures { IsOfText text.now result }
+{
     match prepare(alloc, text) {
         Ok(ready) => match notes_of(alloc, text, None) {
             Ok(notes) => NextPolicy::Ready(ready, notes, text.len()),
@@ -56,7 +70,9 @@ fn ready_policy(alloc: Global, text: &[u8]) -> NextPolicy {
 }
 
 /// Returns the line of a text's fault, with its LF, and what is to be known of the text. Without memory it returns `None`.
-fn refusal(alloc: Global, text: &[u8], fault: &ReloadFault) -> Option<(Vec<u8>, Notes)> {
+fn refusal(alloc: Global, text: &[u8], fault: &ReloadFault) -> Option<(Vec<u8>, Notes)>
+    ensures { IfSome result (λ told. (told.0.items ≡ fault_line fault.now ++ 10 ∷ []) × AreNotes text.now (Some fault.now) told.1) }
+{
     let mut line = fault.line(alloc).ok()?;
     line.push(b'\n').ok()?;
     let notes = notes_of(alloc, text, Some(fault)).ok()?;
