@@ -12,7 +12,7 @@ use std::hash::RandomState;
 use std::marker::Model;
 use std::mem;
 use world::copies::Standing;
-use world::{PlainWorld, World};
+use world::{Caches, PlainWorld, World};
 use world_sessions::leniency::{Lenient, LenientToAll};
 
 /// The limits that a hub is given at its opening.
@@ -232,6 +232,7 @@ impl Hub {
 
     ghost use Rattle.std.specs.Prelude.{[], map, vec_capacity};
     ghost use Rattle.hub.specs.Run.{IsRun};
+    ghost use Rattle.world.specs.Remembering.{IsTrue};
     ghost use Rattle.world.specs.Shown.{standing_of, subscribed_of, waiting_of};
 
     /// Makes the steps of the events in order, and returns the answer or the refusal of each. If there is no memory for
@@ -335,6 +336,14 @@ impl Hub {
         ensures { result ≡ self.now.world.epoch }
     {
         self.world.epoch()
+    }
+
+    /// What is remembered for the next publishes: whom messages are for, verdicts and deny marks. All of it answers as the
+    /// tables do, and the policy in force.
+    pub fn caches(&self) -> &Caches
+        ensures { IsTrue self.now.world result.now }
+    {
+        self.world.caches()
     }
 
     /// The standing subscriptions, oldest first; `NoMemory` if there is no memory for the list.

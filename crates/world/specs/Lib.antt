@@ -5,5 +5,6 @@ pub mod Reload
 pub mod Transition
 pub mod Changes
 pub mod Shown
+pub mod Remembering
 pub mod Holding
 pub mod copies

@@ -14,3 +14,4 @@ mod world;
 
 pub use plain::PlainWorld;
 pub use world::World;
+pub use world_routing::Caches;

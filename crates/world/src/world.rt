@@ -76,6 +76,7 @@ impl World {
     ghost use Rattle.world.specs.Holding.{IsAppliedIf, IsMovedIf};
     ghost use Rattle.world.specs.Reload.{AreEntitled};
     ghost use Rattle.world_routing.specs.Remembered.{AreOfPolicy};
+    ghost use Rattle.world.specs.Remembering.{IsTrue};
     ghost use Rattle.world.specs.Shown.{standing_of, subscribed_of, waiting_of};
 
     /// Returns the tables over a policy, with nobody connected. `outbox` is how many deliveries may wait for a session.
@@ -313,6 +314,14 @@ impl World {
         ensures { result ≡ self.now.epoch }
     {
         self.epoch
+    }
+
+    /// Returns what is remembered for the next publishes: whom messages are for, verdicts and deny marks. All of it answers as
+    /// the tables do, and the policy in force.
+    pub fn caches(&self) -> &Caches
+        ensures { IsTrue self.now result.now }
+    {
+        &self.caches
     }
 
     /// Returns the standing subscriptions, oldest first. `NoMemory` where memory could not be had.
