@@ -1,7 +1,8 @@
 -- Reasons, and which of them has all questions of another.
-use Rattle.std.specs.Prelude.{◌≡◌, ◌<◌, ◌&&◌, ⊤, ℕ, Bool, true, false, List, length, not, Option, Some, None}
+use Rattle.std.specs.Prelude.{◌≡◌, ◌<◌, ◌&&◌, ◌||◌, ⊤, ℕ, Bool, true, false, List, length, nat_lt, not, Option, Some, None}
 use Rattle.std.specs.List.{list_any, slice_index_or}
 use Rattle.subjects.specs.Subject.{Token, covers, in_set, tokens_of, IsSubject}
+use Rattle.subjects.specs.pattern_groups.Links.{IsLeast}
 use Rattle.pattern_sets.specs.declared.search.Asked.{Asked}
 use Rattle.pattern_sets.specs.declared.search.Reason.{Reason}
 
@@ -24,6 +25,14 @@ IsFirstCover reasons reason (Some least) =
     (least < length reasons)
     × (is_within reason (slice_index_or reasons least reason) ≡ true)
     × ((i : ℕ) → i < least → is_within reason (slice_index_or reasons i reason) ≡ false)
+
+-- the reason at an index has all of another, which stands behind it or has less
+abbrev pub has_all : ℕ → Reason → ℕ → Reason → Bool
+has_all at reason i other = is_within reason other && (nat_lt i at || not (is_within other reason))
+
+-- the first of a list that has all of the reason at an index so, if one does
+abbrev pub IsFirstWider : ℕ → List Reason → Reason → Option ℕ → Type 0
+IsFirstWider at reasons reason found = IsLeast (λ i. has_all at reason i (slice_index_or reasons i reason)) (length reasons) found
 
 -- what is found is judged to differ
 abbrev pub IsFound : (List Token → Option (List Token) → Bool) → Option Asked → Type 0

@@ -1,9 +1,17 @@
 //! Allow entries that decide nothing.
-use crate::covering::{Group, Kinds, reasons_of};
 use base::NoMemory;
+use pattern_sets::{Cover, Reason};
 use policy_doc::{Direction, PermEntry};
 use std::alloc::Global;
 use subjects::Pattern;
+
+/// Which entries of a list are asked about.
+#[derive(Clone, Copy, Debug, PartialEq, Eq)]
+enum Kinds {
+    Plain,
+    Queued,
+    All,
+}
 
 /// An allow entry that decides nothing.
 #[derive(Clone, Copy, Debug, PartialEq, Eq)]
@@ -60,11 +68,11 @@ fn push_idle<'a>(
     idle: &mut Vec<Idle>,
 ) -> Result<(), NoMemory> {
     let (reasons, places) = reasons_of(alloc, allow.0, allow.1, any)?;
-    let allowing = Group::of(alloc, reasons)?;
+    let allowing = Cover::of(alloc, reasons)?;
     let (reasons, denied) = reasons_of(alloc, deny.0, deny.1, any)?;
-    let denying = Group::of(alloc, reasons)?;
+    let denying = Cover::of(alloc, reasons)?;
     for (at, reason) in allowing.reasons().iter().enumerate() {
-        let found = match denying.first_wider(reason, usize::MAX) {
+        let found = match denying.first(reason) {
             Some(by) => idle_by(places.as_slice(), at, denied.as_slice(), by, true),
             None => match allowing.first_wider(reason, at) {
                 Some(by) => idle_by(places.as_slice(), at, places.as_slice(), by, false),
@@ -93,5 +101,36 @@ fn idle_by(
             is_denied,
         }),
         _ => None,
+    }
+}
+
+/// The entries of these kinds as reasons, and their indexes in the list. A plain entry is one for any queue.
+/// `NoMemory` where memory could not be had.
+fn reasons_of<'a>(
+    alloc: Global,
+    entries: &'a [PermEntry],
+    kinds: Kinds,
+    any: &'a Pattern,
+) -> Result<(Vec<Reason<'a>>, Vec<usize>), NoMemory> {
+    let mut reasons = Vec::new(alloc);
+    let mut places = Vec::new(alloc);
+    for (place, entry) in entries.iter().enumerate() {
+        if is_of(entry, kinds) {
+            reasons.push(Reason {
+                subject: &entry.subject,
+                queue: entry.queue.as_ref().unwrap_or(any),
+            })?;
+            places.push(place)?;
+        }
+    }
+    Ok((reasons, places))
+}
+
+/// Whether an entry is of these kinds.
+fn is_of(entry: &PermEntry, kinds: Kinds) -> bool {
+    match kinds {
+        Kinds::Plain => entry.queue.is_none(),
+        Kinds::Queued => entry.queue.is_some(),
+        Kinds::All => true,
     }
 }

@@ -2,7 +2,6 @@
 //! that no user can use (docs/POLICY.md, "Warnings"). It knows no connection and no file.
 #![tactic(auto)]
 
-mod covering;
 mod entries;
 mod imports;
 mod users;
