@@ -1,6 +1,6 @@
 -- A message in all its views: its own account's first, and then the others: none, those across rows, or that of the account that has
 -- asked.
-use Rattle.std.proofs.Common.{◌≡◌, ◌∙◌, ◌==◌, List, [], None, true, false, length, ap, sym, subst}
+use Rattle.std.proofs.Common.{◌≡◌, ◌∙◌, ◌==◌, List, [], Option, None, true, false, length, ap, sym, subst}
 use Rattle.subjects.specs.Subject.{Token}
 use Rattle.events.specs.declared.answer.Addressed.{Addressed}
 use Rattle.policy_ready.specs.imports.Views.{is_route, rows_of}
@@ -12,7 +12,8 @@ use Rattle.receivers.specs.views.CachedViews.{others_in, others_with}
 use Rattle.world_views.specs.addressing.Standing.{addressed_behind_in}
 use Rattle.world_views.specs.Changing.{opened_each}
 use Rattle.world_views.specs.Requests.{responses_on}
-use Rattle.world_views.specs.Viewing.{Tables, Publication, Addressing, addressing, addressed_after, reports_after}
+use Rattle.world_views.specs.Viewing.{Tables, Publication, Addressing, addressing, addressed_after, reports_after, reports_in, routes_after, AreAddressed, AreNotedIn}
+use Rattle.world_views.specs.declared.across.Told.{Told}
 use Rattle.world_views.specs.declared.changing.Opening.{Opening}
 use Rattle.world_views.specs.declared.viewing.Report.{Report}
 use Rattle.world_views.proofs.InTurn.{spent_elsewhere, spent_none}
@@ -56,14 +57,13 @@ module _ (t : Tables) (p : Publication) where
         ap (λ (rs : List ViewItem). others_with (rows_of t.policy) rs account s) (no_response t.routes account s none)
         ∙ across_none (rows_of t.policy) account s (subst (λ (rows : List ImportRow). (length rows == 0) ≡ true) same alone.0)
 
-    pub alone_all : (all : List Addressed) → all ≡ own → all ≡ (behind others).deliveries
-    alone_all all is = is ∙ ap (λ (vs : List ViewItem). (behind vs).deliveries) (sym no_others)
-
-    pub alone_reports : [] ≡ reported others
-    alone_reports = ap reported (sym no_others)
-
-    pub alone_changed : t.routes ≡ changed others
-    alone_changed = sym (spent_none account s t.routes none) ∙ ap changed (sym no_others)
+    pub own_alone : (all : List Addressed) → all ≡ own → AreAddressed t p all None
+    own_alone all is = record {
+      all = is ∙ ap (λ (vs : List ViewItem). (behind vs).deliveries) (sym no_others);
+      reports = ap reported (sym no_others);
+      changed = sym (spent_none account s t.routes none) ∙ ap changed (sym no_others);
+      noted = tt;
+    }
 
   -- on the subject of a route the other view is that of the account that has asked
   module _ (is_on : is_route s ≡ true) where
@@ -73,17 +73,16 @@ module _ (t : Tables) (p : Publication) where
     one_other : others ≡ asker
     one_other = across_route (rows_of t.policy) responses account s is_on
 
-    pub route_all : (all : List Addressed) → all ≡ (behind asker).deliveries → all ≡ (behind others).deliveries
-    route_all all is = is ∙ ap (λ (vs : List ViewItem). (behind vs).deliveries) (sym one_other)
-
-    pub route_reports : [] ≡ reported others
-    route_reports = sym (response_unreported t p (addressing own []) responses account s (are_response t.routes account s)) ∙ ap reported (sym one_other)
-
-    pub route_changed : (routes : List (Name × Exporter)) → routes ≡ spent account s t.routes → routes ≡ changed others
-    route_changed routes is =
-        is
-        ∙ ap (λ (os : List Opening). spent account s (opened_each os t.routes))
-        (sym (response_opens_none t p own responses account s (are_response t.routes account s)) ∙ ap (λ (vs : List ViewItem). (behind vs).openings) (sym one_other))
+    pub on_route : (all : List Addressed) (told : Option Told) → all ≡ (behind asker).deliveries → reports_in told ≡ [] → routes_after told t.routes ≡ spent account s t.routes
+        → AreNotedIn t.now told → AreAddressed t p all told
+    on_route all told is none routes noted = record {
+      all = is ∙ ap (λ (vs : List ViewItem). (behind vs).deliveries) (sym one_other);
+      reports = none ∙ sym (response_unreported t p (addressing own []) responses account s (are_response t.routes account s)) ∙ ap reported (sym one_other);
+      changed = routes
+          ∙ ap (λ (os : List Opening). spent account s (opened_each os t.routes))
+          (sym (response_opens_none t p own responses account s (are_response t.routes account s)) ∙ ap (λ (vs : List ViewItem). (behind vs).openings) (sym one_other));
+      noted = noted;
+    }
 
   -- elsewhere they are those across rows
   module _ (elsewhere : is_route s ≡ false) where
@@ -93,14 +92,13 @@ module _ (t : Tables) (p : Publication) where
     some_others : others ≡ importers
     some_others = ap (λ (rs : List ViewItem). others_with (rows_of t.policy) rs account s) (no_response_elsewhere t.routes account s elsewhere)
 
-    pub across_all : (all : List Addressed) → all ≡ (behind importers).deliveries → all ≡ (behind others).deliveries
-    across_all all is = is ∙ ap (λ (vs : List ViewItem). (behind vs).deliveries) (sym some_others)
-
-    pub across_reports : (rs : List Report) → rs ≡ reported importers → rs ≡ reported others
-    across_reports rs is = is ∙ ap reported (sym some_others)
-
-    pub across_changed : (routes : List (Name × Exporter)) → routes ≡ opened_each (behind importers).openings t.routes → routes ≡ changed others
-    across_changed routes is =
-        is
-        ∙ ap (λ (vs : List ViewItem). opened_each (behind vs).openings t.routes) (sym some_others)
-        ∙ sym (spent_elsewhere account s (opened_each (behind others).openings t.routes) elsewhere)
+    pub across : (all : List Addressed) (told : Option Told) → all ≡ (behind importers).deliveries → reports_in told ≡ reported importers
+        → routes_after told t.routes ≡ opened_each (behind importers).openings t.routes → AreNotedIn t.now told → AreAddressed t p all told
+    across all told is reports routes noted = record {
+      all = is ∙ ap (λ (vs : List ViewItem). (behind vs).deliveries) (sym some_others);
+      reports = reports ∙ ap reported (sym some_others);
+      changed = routes
+          ∙ ap (λ (vs : List ViewItem). opened_each (behind vs).openings t.routes) (sym some_others)
+          ∙ sym (spent_elsewhere account s (opened_each (behind others).openings t.routes) elsewhere);
+      noted = noted;
+    }

@@ -1,12 +1,13 @@
 -- A message addressed in its views one after the other, before any delivery is handed over, with the import rows that are
 -- reported between the deliveries and the response routes that are to be opened (docs/ARCHITECTURE.md, "Decide, then do").
-use Rattle.std.specs.Prelude.{◌++◌, ◌-◌, ℕ, Bool, true, false, List, [], ◌∷◌, Option, Some, None, length, take, drop}
+use Rattle.std.specs.Prelude.{◌≡◌, ◌++◌, ◌-◌, ℕ, Bool, true, false, List, [], ◌∷◌, Option, Some, None, length, take, drop}
 use Rattle.subjects.specs.Subject.{Token}
 use Rattle.events.specs.Messages.{Message}
 use Rattle.events.specs.declared.answer.Addressed.{Addressed}
 use Rattle.events.specs.declared.answer.Item.{Item}
 use Rattle.events.specs.declared.answer.Item.TheVariants.{RouteFull, MapTooLong}
 use Rattle.policy_doc.specs.declared.exports.document.Row.{Row}
+use Rattle.policy_ready.specs.imports.Across.{views}
 use Rattle.policy_ready.specs.declared.imports.view.ViewItem.{ViewItem}
 use Rattle.policy_ready.specs.declared.imports.view.ViewItem.TheVariants.{At, TooLong}
 use Rattle.policy_ready.specs.declared.imports.view.Way.{Way}
@@ -14,14 +15,14 @@ use Rattle.policy_ready.specs.declared.imports.view.Way.TheVariants.{Own, Stream
 use Rattle.policy_doc.specs.declared.document.PolicyDoc.{PolicyDoc}
 use Rattle.service_exporter.specs.Limit.{is_full}
 use Rattle.service_exporter.specs.Routes.{Exporter}
-use Rattle.service_routes.specs.Routes.{Name, exporter_of, pruned}
+use Rattle.service_routes.specs.Routes.{Name, exporter_of, pruned, spent}
 use Rattle.world_sessions.specs.declared.deliveries.session.Session.{Session}
 use Rattle.world_rows.specs.declared.subscription.Subscription.{Subscription}
 pub use Rattle.receivers.specs.views.CachedViews.{others_in, others_with}
 use Rattle.world_views.specs.addressing.Standing.{addressed_behind_in, is_for_nobody}
 use Rattle.receivers.specs.views.CachedViews.{under_subject}
 use Rattle.world_views.specs.Changing.{changed_by, opened_each, AreNoted}
-use Rattle.world_views.specs.Requests.{route_for, next_subject}
+use Rattle.world_views.specs.Requests.{responses_on, route_for, next_subject}
 use Rattle.world_views.specs.declared.across.Told.{Told}
 use Rattle.world_views.specs.declared.changing.Opening.{Opening}
 use Rattle.world_views.specs.declared.viewing.Cause.{Cause}
@@ -146,3 +147,16 @@ routes_after (Some told) all = changed_by told.routes all
 abbrev pub AreNotedIn : ℕ → Option Told → Type 0
 AreNotedIn now None = Unit {0}
 AreNotedIn now (Some told) = AreNoted now told.routes
+
+-- ---- a message in all its views
+
+-- its views: its publisher's own, those across rows, and that of the account that has asked
+abbrev pub views_in : Tables → Publication → List ViewItem
+views_in t p = views t.policy p.publisher.user.account p.message.subject (responses_on t.routes p.publisher.user.account p.message.subject)
+
+-- what it comes to in all of them: its deliveries, the rows across which it isn't seen, and what becomes of routes
+pub record AreAddressed (t : Tables) (p : Publication) (deliveries : List Addressed) (told : Option Told) : Type 0 where
+  pub all : deliveries ≡ (addressed_after t p (addressing [] []) (views_in t p)).deliveries
+  pub reports : reports_in told ≡ reports_after t p (addressing [] []) (views_in t p)
+  pub changed : routes_after told t.routes ≡ spent p.publisher.user.account p.message.subject (opened_each (addressed_after t p (addressing [] []) (views_in t p)).openings t.routes)
+  pub noted : AreNotedIn t.now told

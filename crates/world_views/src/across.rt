@@ -1,6 +1,5 @@
 //! A message addressed in all its views: its publisher's own, those across import rows, and that of the account that has asked.
 ghost use Rattle.std.specs.Prelude.{◌≡◌, ◌==◌, ◌++◌, ℕ, List, [], All, IfOk, IfSome, OnOk, None, Some, length, true, false, if◌then◌else◌};
-ghost use Rattle.policy_ready.specs.imports.Across.{views};
 ghost use Rattle.policy_ready.specs.imports.Views.{is_route, is_same, rows_of};
 ghost use Rattle.policy_ready.specs.declared.imports.view.ViewItem.TheVariants.{At};
 ghost use Rattle.policy_ready.specs.declared.imports.view.Way.TheVariants.{Own};
@@ -13,7 +12,7 @@ ghost use Rattle.world_views.specs.addressing.Standing.{addressed_behind_in};
 ghost use Rattle.receivers.specs.views.CachedViews.{under_subject};
 ghost use Rattle.world_views.specs.Changing.{changed_by, opened_each, AreNoted, IsNotedAt};
 ghost use Rattle.world_views.specs.Requests.{response_by, responses_on};
-ghost use Rattle.world_views.specs.Viewing.{addressed_after, addressing, others_in, others_with, publication, reports_after, reports_in, routes_after, seen_with, tables_at, AreNotedIn};
+ghost use Rattle.world_views.specs.Viewing.{addressed_after, addressing, others_in, others_with, publication, reports_after, reports_in, routes_after, seen_with, tables_at, AreAddressed, AreNotedIn};
 
 use crate::addressing::{Receivers, Sending};
 use crate::changing::RouteChange;
@@ -256,18 +255,8 @@ pub fn address_all<'p>(
     requires cached { IsCurrent (rows_of publishing.ready.now) sessions.now subscriptions.old receivers.old.cache }
     requires allowed { IfSome publishing.sending.allowed (IsAllowed publishing.sending.publisher.now.user publishing.sending.message.now.subject) }
     requires marked { AreMarked sessions.now subscriptions.old publishing.marks.now }
-    ensures all { OnOk result (receivers.new.deliveries.items ≡ (addressed_after (tables_at publishing.entry.ready.now publishing.entry.now sessions.now subscriptions.old routes.old.exporters) (publication publishing.entry.sending.publisher.now publishing.entry.sending.message.now publishing.entry.sending.word) (addressing [] [])
-        (views publishing.entry.ready.now publishing.entry.sending.publisher.now.user.account publishing.entry.sending.message.now.subject
-        (responses_on (pruned publishing.entry.now routes.old.exporters) publishing.entry.sending.publisher.now.user.account publishing.entry.sending.message.now.subject))).deliveries) }
-    ensures reports { IfOk result (λ told. reports_in told ≡ reports_after (tables_at publishing.entry.ready.now publishing.entry.now sessions.now subscriptions.old routes.old.exporters) (publication publishing.entry.sending.publisher.now publishing.entry.sending.message.now publishing.entry.sending.word) (addressing [] [])
-        (views publishing.entry.ready.now publishing.entry.sending.publisher.now.user.account publishing.entry.sending.message.now.subject
-        (responses_on (pruned publishing.entry.now routes.old.exporters) publishing.entry.sending.publisher.now.user.account publishing.entry.sending.message.now.subject))) }
-    ensures changed { IfOk result (λ told. routes_after told (pruned publishing.entry.now routes.old.exporters)
-        ≡ spent publishing.entry.sending.publisher.now.user.account publishing.entry.sending.message.now.subject
-        (opened_each (addressed_after (tables_at publishing.entry.ready.now publishing.entry.now sessions.now subscriptions.old routes.old.exporters) (publication publishing.entry.sending.publisher.now publishing.entry.sending.message.now publishing.entry.sending.word) (addressing [] [])
-        (views publishing.entry.ready.now publishing.entry.sending.publisher.now.user.account publishing.entry.sending.message.now.subject
-        (responses_on (pruned publishing.entry.now routes.old.exporters) publishing.entry.sending.publisher.now.user.account publishing.entry.sending.message.now.subject))).openings (pruned publishing.entry.now routes.old.exporters))) }
-    ensures noted { IfOk result (λ told. AreNotedIn publishing.entry.now told) }
+    ensures addressed { IfOk result (λ told. AreAddressed (tables_at publishing.entry.ready.now publishing.entry.now sessions.now subscriptions.old routes.old.exporters)
+        (publication publishing.entry.sending.publisher.now publishing.entry.sending.message.now publishing.entry.sending.word) receivers.new.deliveries.items told) }
     ensures same { subscriptions.new ≡ subscriptions.old }
     ensures cached { IsCurrent (rows_of publishing.entry.ready.now) sessions.now subscriptions.old receivers.new.cache }
     ensures routes { routes.new.exporters ≡ routes.old.exporters }
@@ -317,18 +306,8 @@ pub fn address_under<'p>(
     subject: &Subject,
 ) -> Result<Option<Boxed<Told>>, NoMemory>
     requires marked { AreMarked sessions.now subscriptions.now publishing.marks.now }
-    ensures all { OnOk result (receivers.new.deliveries.items ≡ (addressed_after (tables_at publishing.entry.ready.now publishing.entry.now sessions.now subscriptions.now routes.old.exporters) (publication publishing.entry.sending.publisher.now (under_subject subject.now publishing.entry.sending.message.now) publishing.entry.sending.word) (addressing [] [])
-        (views publishing.entry.ready.now publishing.entry.sending.publisher.now.user.account subject.now
-        (responses_on (pruned publishing.entry.now routes.old.exporters) publishing.entry.sending.publisher.now.user.account subject.now))).deliveries) }
-    ensures reports { IfOk result (λ told. reports_in told ≡ reports_after (tables_at publishing.entry.ready.now publishing.entry.now sessions.now subscriptions.now routes.old.exporters) (publication publishing.entry.sending.publisher.now (under_subject subject.now publishing.entry.sending.message.now) publishing.entry.sending.word) (addressing [] [])
-        (views publishing.entry.ready.now publishing.entry.sending.publisher.now.user.account subject.now
-        (responses_on (pruned publishing.entry.now routes.old.exporters) publishing.entry.sending.publisher.now.user.account subject.now))) }
-    ensures changed { IfOk result (λ told. routes_after told (pruned publishing.entry.now routes.old.exporters)
-        ≡ spent publishing.entry.sending.publisher.now.user.account subject.now
-        (opened_each (addressed_after (tables_at publishing.entry.ready.now publishing.entry.now sessions.now subscriptions.now routes.old.exporters) (publication publishing.entry.sending.publisher.now (under_subject subject.now publishing.entry.sending.message.now) publishing.entry.sending.word) (addressing [] [])
-        (views publishing.entry.ready.now publishing.entry.sending.publisher.now.user.account subject.now
-        (responses_on (pruned publishing.entry.now routes.old.exporters) publishing.entry.sending.publisher.now.user.account subject.now))).openings (pruned publishing.entry.now routes.old.exporters))) }
-    ensures noted { IfOk result (λ told. AreNotedIn publishing.entry.now told) }
+    ensures addressed { IfOk result (λ told. AreAddressed (tables_at publishing.entry.ready.now publishing.entry.now sessions.now subscriptions.now routes.old.exporters)
+        (publication publishing.entry.sending.publisher.now (under_subject subject.now publishing.entry.sending.message.now) publishing.entry.sending.word) receivers.new.deliveries.items told) }
     ensures cached { receivers.new.cache ≡ receivers.old.cache }
     ensures routes { routes.new.exporters ≡ routes.old.exporters }
 {

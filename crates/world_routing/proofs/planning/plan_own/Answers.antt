@@ -27,7 +27,7 @@ plan_told-requires c = λ none.
     let m = c.args.permitted.publish.message.now in
     let t : Tables = tables_at c.args.ready.now c.args.permitted.publish.now c.args.sessions.now c.args.subscriptions.now c.args.routes.now.exporters in
     let vs : List ViewItem = views t.policy z.user.account m.subject (responses_on t.routes z.user.account m.subject) in
-    subst (All reply) (sym c.in_ok-address_all-in-Some.ensures.all)
+    subst (All reply) (sym c.in_ok-address_all-in-Some.ensures.addressed.all)
     (unsaid_after t (publication z m c.args.permitted.publish.word) (addressing [] []) vs none (All-nil reply))
 
 pub returns-clause-planned : goal.returns-clause-planned
@@ -36,5 +36,5 @@ returns-clause-planned c = λ w of.
     let z = c.in-Some.session.now in
     let t : Tables = tables_at c.args.ready.now c.args.permitted.publish.now c.args.sessions.now c.args.subscriptions.now c.args.routes.now.exporters in
     planned_told t c.args.permitted.publish.conn m c.args.permitted.publish.word z m c.in-Some.ensures c.args.permitted.by c.use_invariant.ensures.apart c.use_invariant.ensures.going
-    _ c.in_ok-answered_by-in-Some.ensures _ c.in_ok-address_all-in-Some.ensures.reports c.in_ok-address_all-in-Some.ensures.changed c.in_ok-address_all-in-Some.ensures.noted
-    _ c.in_ok-address_all-in-Some.ensures.all _ c.in_ok-plan.ensures.planned w of
+    _ c.in_ok-answered_by-in-Some.ensures _ c.in_ok-address_all-in-Some.ensures.addressed.reports c.in_ok-address_all-in-Some.ensures.addressed.changed c.in_ok-address_all-in-Some.ensures.addressed.noted
+    _ c.in_ok-address_all-in-Some.ensures.addressed.all _ c.in_ok-plan.ensures.planned w of

@@ -44,7 +44,7 @@ plan_told-requires c = λ none.
     let m = c.args.publish.message.now in
     let t : Tables = tables_at c.args.ready.now c.args.publish.now c.args.sessions.now c.args.subscriptions.now c.args.routes.now.exporters in
     let vs : List ViewItem = views t.policy z.user.account m.subject (responses_on t.routes z.user.account m.subject) in
-    subst (All reply) (sym c.in_ok-told.ensures.all)
+    subst (All reply) (sym c.in_ok-told.ensures.addressed.all)
     (unsaid_after t (publication z m c.args.publish.word) (addressing [] []) vs none (All-nil reply))
 
 pub returns-then-is_mapped-clause-planned : goal.returns-then-is_mapped-clause-planned
@@ -73,8 +73,8 @@ returns-clause-planned c = λ w of.
     planned_publish conn z w found plan by m word c.subject-subject.result c.subject-subject.ensures (c.in-Allowed.ensures.verdict ∙ ap (λ (x : Tables). verdict_on x.now z c.subject-subject.result) (sym of))
     (planned_unmapped conn z w found plan by m word (c.is_mapped.ensures c.if-is_mapped.false)
     (planned_told t conn m word z m c.in-Some.ensures by c.use_invariant.ensures.apart c.use_invariant.ensures.going
-    _ c.in_ok-answered.ensures _ c.in_ok-told.ensures.reports c.in_ok-told.ensures.changed c.in_ok-told.ensures.noted
-    _ c.in_ok-told.ensures.all _ c.in_ok-plan-2.ensures.planned w of))
+    _ c.in_ok-answered.ensures _ c.in_ok-told.ensures.addressed.reports c.in_ok-told.ensures.addressed.changed c.in_ok-told.ensures.addressed.noted
+    _ c.in_ok-told.ensures.addressed.all _ c.in_ok-plan-2.ensures.planned w of))
 
 pub returns-clause-reason : goal.returns-clause-reason
 returns-clause-reason c = publish_reason _ _ _ _ _ c.in-Some.ensures c.subject-subject.ensures refl c.on_publish.ensures.justified

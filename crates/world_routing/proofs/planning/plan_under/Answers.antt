@@ -20,7 +20,7 @@ plan_told-requires c = λ none.
     let s = c.args.sent_on.subject in
     let t : Tables = tables_at c.args.ready.now publish.now c.args.sessions.now c.args.subscriptions.now c.args.routes.now.exporters in
     let vs : List ViewItem = views t.policy z.user.account s (responses_on t.routes z.user.account s) in
-    subst (All reply) (sym c.in_ok-told-in-Some.ensures.all)
+    subst (All reply) (sym c.in_ok-told-in-Some.ensures.addressed.all)
     (unsaid_after t (publication z (under_subject s m) publish.word) (addressing [] []) vs none (All-nil reply))
 
 pub returns-clause-planned : goal.returns-clause-planned
@@ -31,5 +31,5 @@ returns-clause-planned c = λ w of.
     let s = c.args.sent_on.subject in
     let t : Tables = tables_at c.args.ready.now publish.now c.args.sessions.now c.args.subscriptions.now c.args.routes.now.exporters in
     planned_told t publish.conn (under_subject s m) publish.word z m c.in-Some.ensures c.args.sent_on.permitted.by c.use_invariant.ensures.apart c.use_invariant.ensures.going
-    _ c.in_ok-answered-in-Some.ensures _ c.in_ok-told-in-Some.ensures.reports c.in_ok-told-in-Some.ensures.changed c.in_ok-told-in-Some.ensures.noted
-    _ c.in_ok-told-in-Some.ensures.all _ c.in_ok-plan.ensures.planned w of
+    _ c.in_ok-answered-in-Some.ensures _ c.in_ok-told-in-Some.ensures.addressed.reports c.in_ok-told-in-Some.ensures.addressed.changed c.in_ok-told-in-Some.ensures.addressed.noted
+    _ c.in_ok-told-in-Some.ensures.addressed.all _ c.in_ok-plan.ensures.planned w of

@@ -7,32 +7,21 @@ use Rattle.receivers.specs.views.CachedViews.{others_in, under_subject}
 use Rattle.world_views.specs.addressing.Standing.{addressed_behind_in}
 use Rattle.world_views.specs.Changing.{opened_each}
 use Rattle.world_views.specs.Viewing.{Tables, Publication, Addressing, addressing, addressed_after, publication, reports_after, tables_at}
-use Rattle.world_views.proofs.InAll.{across_all, across_changed, across_reports, alone_all, alone_changed, alone_reports, asker, importers, own, route_all, route_changed, route_reports}
+use Rattle.world_views.proofs.InAll.{across, asker, importers, on_route, own, own_alone}
 use Rattle.world_views.proofs.Under.{same_addressed, same_reports}
 use Rattle.world_views.proofs.across.address_under.Goals as goal
 
-pub returns-then-is_own_alone-clause-all : goal.returns-then-is_own_alone-clause-all
-returns-then-is_own_alone-clause-all c =
+pub returns-then-is_own_alone-clause-addressed : goal.returns-then-is_own_alone-clause-addressed
+returns-then-is_own_alone-clause-addressed c =
     let t : Tables = tables_at c.args.publishing.ready.now c.args.publishing.now c.args.sessions.now c.args.subscriptions.now c.args.routes.now.exporters in
-    let q : Publication = publication c.args.publishing.sending.publisher.now (under_subject c.args.subject.now c.args.publishing.sending.message.now) c.args.publishing.sending.word in
+    let p : Publication = publication c.args.publishing.sending.publisher.now c.args.publishing.sending.message.now c.args.publishing.sending.word in
+    let q : Publication = publication p.publisher (under_subject c.args.subject.now p.message) p.word in
     let is : c.address_in.new.receivers.deliveries.items ≡ own t q =
     c.in_ok-address_in.ensures.all ∙ ap (λ (before : List Addressed). before ++ addressed_behind_in t.sessions t.subscriptions before q.publisher q.message q.word q.publisher.user.account) c.take_back.ensures.all in
-    alone_all t q _ c.args.routes.now.exporters c.rows.ensures refl (c.is_own_alone.ensures c.if-is_own_alone.true) c.address_in.new.receivers.deliveries.items is
+    own_alone t q _ c.args.routes.now.exporters c.rows.ensures refl (c.is_own_alone.ensures c.if-is_own_alone.true) c.address_in.new.receivers.deliveries.items is
 
-pub returns-then-is_own_alone-clause-reports : goal.returns-then-is_own_alone-clause-reports
-returns-then-is_own_alone-clause-reports c =
-    let t : Tables = tables_at c.args.publishing.ready.now c.args.publishing.now c.args.sessions.now c.args.subscriptions.now c.args.routes.now.exporters in
-    let q : Publication = publication c.args.publishing.sending.publisher.now (under_subject c.args.subject.now c.args.publishing.sending.message.now) c.args.publishing.sending.word in
-    alone_reports t q _ c.args.routes.now.exporters c.rows.ensures refl (c.is_own_alone.ensures c.if-is_own_alone.true)
-
-pub returns-then-is_own_alone-clause-changed : goal.returns-then-is_own_alone-clause-changed
-returns-then-is_own_alone-clause-changed c =
-    let t : Tables = tables_at c.args.publishing.ready.now c.args.publishing.now c.args.sessions.now c.args.subscriptions.now c.args.routes.now.exporters in
-    let q : Publication = publication c.args.publishing.sending.publisher.now (under_subject c.args.subject.now c.args.publishing.sending.message.now) c.args.publishing.sending.word in
-    alone_changed t q _ c.args.routes.now.exporters c.rows.ensures refl (c.is_own_alone.ensures c.if-is_own_alone.true)
-
-pub returns-then-is_route-clause-all : goal.returns-then-is_route-clause-all
-returns-then-is_route-clause-all c =
+pub returns-then-is_route-clause-addressed : goal.returns-then-is_route-clause-addressed
+returns-then-is_route-clause-addressed c =
     let t : Tables = tables_at c.args.publishing.ready.now c.args.publishing.now c.args.sessions.now c.args.subscriptions.now c.args.routes.now.exporters in
     let p : Publication = publication c.args.publishing.sending.publisher.now c.args.publishing.sending.message.now c.args.publishing.sending.word in
     let q : Publication = publication p.publisher (under_subject c.args.subject.now p.message) p.word in
@@ -40,26 +29,13 @@ returns-then-is_route-clause-all c =
     c.in_ok-address_in.ensures.all ∙ ap (λ (before : List Addressed). before ++ addressed_behind_in t.sessions t.subscriptions before q.publisher q.message q.word q.publisher.user.account) c.take_back.ensures.all in
     let is_on : is_route c.args.subject.now ≡ true = sym (c.is_route.ensures ∙ ap is_route c.lend-seen.ensures) ∙ c.if-is_route.true in
     let by_own : List Addressed → Addressing = λ ds. addressed_after t p (addressing ds []) (asker t q is_on) in
-    route_all t q is_on _
+    on_route t q is_on _ _
     (c.in_ok-told.ensures.all
     ∙ ap (λ (a : Addressing). a.deliveries) (ap by_own is ∙ same_addressed t p.publisher p.message p.word c.args.subject.now (addressing (own t q) []) (asker t q is_on)))
+    c.in_ok-told.ensures.reports c.in_ok-told.ensures.spent c.in_ok-told.ensures.noted
 
-pub returns-then-is_route-clause-reports : goal.returns-then-is_route-clause-reports
-returns-then-is_route-clause-reports c =
-    let t : Tables = tables_at c.args.publishing.ready.now c.args.publishing.now c.args.sessions.now c.args.subscriptions.now c.args.routes.now.exporters in
-    let q : Publication = publication c.args.publishing.sending.publisher.now (under_subject c.args.subject.now c.args.publishing.sending.message.now) c.args.publishing.sending.word in
-    let is_on : is_route c.args.subject.now ≡ true = sym (c.is_route.ensures ∙ ap is_route c.lend-seen.ensures) ∙ c.if-is_route.true in
-    c.in_ok-told.ensures.reports ∙ route_reports t q is_on
-
-pub returns-then-is_route-clause-changed : goal.returns-then-is_route-clause-changed
-returns-then-is_route-clause-changed c =
-    let t : Tables = tables_at c.args.publishing.ready.now c.args.publishing.now c.args.sessions.now c.args.subscriptions.now c.args.routes.now.exporters in
-    let q : Publication = publication c.args.publishing.sending.publisher.now (under_subject c.args.subject.now c.args.publishing.sending.message.now) c.args.publishing.sending.word in
-    let is_on : is_route c.args.subject.now ≡ true = sym (c.is_route.ensures ∙ ap is_route c.lend-seen.ensures) ∙ c.if-is_route.true in
-    route_changed t q is_on _ c.in_ok-told.ensures.spent
-
-pub returns-clause-all : goal.returns-clause-all
-returns-clause-all c =
+pub returns-clause-addressed : goal.returns-clause-addressed
+returns-clause-addressed c =
     let t : Tables = tables_at c.args.publishing.ready.now c.args.publishing.now c.args.sessions.now c.args.subscriptions.now c.args.routes.now.exporters in
     let p : Publication = publication c.args.publishing.sending.publisher.now c.args.publishing.sending.message.now c.args.publishing.sending.word in
     let q : Publication = publication p.publisher (under_subject c.args.subject.now p.message) p.word in
@@ -69,31 +45,11 @@ returns-clause-all c =
     let by_subject : List Token → Addressing = λ x. addressed_after t p (addressing c.address_in.new.receivers.deliveries.items []) (others_in (rows_of t.policy) p.publisher.user.account x) in
     let by_own : List Addressed → Addressing = λ ds. addressed_after t p (addressing ds []) (importers t q elsewhere) in
     let found = ap by_subject c.lend-seen.ensures ∙ ap by_own is ∙ same_addressed t p.publisher p.message p.word c.args.subject.now (addressing (own t q) []) (importers t q elsewhere) in
-    across_all t q elsewhere _ (c.in_ok-told-2.ensures.all ∙ ap (λ (a : Addressing). a.deliveries) found)
-
-pub returns-clause-reports : goal.returns-clause-reports
-returns-clause-reports c =
-    let t : Tables = tables_at c.args.publishing.ready.now c.args.publishing.now c.args.sessions.now c.args.subscriptions.now c.args.routes.now.exporters in
-    let p : Publication = publication c.args.publishing.sending.publisher.now c.args.publishing.sending.message.now c.args.publishing.sending.word in
-    let q : Publication = publication p.publisher (under_subject c.args.subject.now p.message) p.word in
-    let is : c.address_in.new.receivers.deliveries.items ≡ own t q =
-    c.in_ok-address_in.ensures.all ∙ ap (λ (before : List Addressed). before ++ addressed_behind_in t.sessions t.subscriptions before q.publisher q.message q.word q.publisher.user.account) c.take_back.ensures.all in
-    let elsewhere : is_route c.args.subject.now ≡ false = sym (c.is_route.ensures ∙ ap is_route c.lend-seen.ensures) ∙ c.if-is_route.false in
-    across_reports t q elsewhere _
+    across t q elsewhere _ _
+    (c.in_ok-told-2.ensures.all ∙ ap (λ (a : Addressing). a.deliveries) found)
     (c.in_ok-told-2.ensures.reports
     ∙ ap (λ (x : List Token). reports_after t p (addressing c.address_in.new.receivers.deliveries.items []) (others_in (rows_of t.policy) p.publisher.user.account x)) c.lend-seen.ensures
     ∙ ap (λ (ds : List Addressed). reports_after t p (addressing ds []) (importers t q elsewhere)) is
     ∙ same_reports t p.publisher p.message p.word c.args.subject.now (addressing (own t q) []) (importers t q elsewhere))
-
-pub returns-clause-changed : goal.returns-clause-changed
-returns-clause-changed c =
-    let t : Tables = tables_at c.args.publishing.ready.now c.args.publishing.now c.args.sessions.now c.args.subscriptions.now c.args.routes.now.exporters in
-    let p : Publication = publication c.args.publishing.sending.publisher.now c.args.publishing.sending.message.now c.args.publishing.sending.word in
-    let q : Publication = publication p.publisher (under_subject c.args.subject.now p.message) p.word in
-    let is : c.address_in.new.receivers.deliveries.items ≡ own t q =
-    c.in_ok-address_in.ensures.all ∙ ap (λ (before : List Addressed). before ++ addressed_behind_in t.sessions t.subscriptions before q.publisher q.message q.word q.publisher.user.account) c.take_back.ensures.all in
-    let elsewhere : is_route c.args.subject.now ≡ false = sym (c.is_route.ensures ∙ ap is_route c.lend-seen.ensures) ∙ c.if-is_route.false in
-    let by_subject : List Token → Addressing = λ x. addressed_after t p (addressing c.address_in.new.receivers.deliveries.items []) (others_in (rows_of t.policy) p.publisher.user.account x) in
-    let by_own : List Addressed → Addressing = λ ds. addressed_after t p (addressing ds []) (importers t q elsewhere) in
-    let found = ap by_subject c.lend-seen.ensures ∙ ap by_own is ∙ same_addressed t p.publisher p.message p.word c.args.subject.now (addressing (own t q) []) (importers t q elsewhere) in
-    across_changed t q elsewhere _ (c.in_ok-told-2.ensures.opened ∙ ap (λ (a : Addressing). opened_each a.openings t.routes) found)
+    (c.in_ok-told-2.ensures.opened ∙ ap (λ (a : Addressing). opened_each a.openings t.routes) found)
+    c.in_ok-told-2.ensures.noted
