@@ -166,6 +166,16 @@ IsTurn c failed failed' waits Lost = IsWritten c.kept failed failed'
 IsTurn c failed failed' waits Idle = IsWritten c.kept failed failed'
 IsTurn c failed failed' waits Ended = IsWritten c.kept failed failed'
 
+-- nothing was to be read
+abbrev pub IsNoRead : Turn → Type 0
+IsNoRead t = (t ≢ Idle) × (t ≢ Ended)
+
+-- all that was kept is written and the connection stands, or the turn ends without a call, whatever stopped one
+abbrev pub IsWrittenOut : Client → Bool → Bool → Bool → Option Turn → Type 0
+IsWrittenOut c failed failed' waits None = IsTurn c failed failed' waits Done
+IsWrittenOut c failed failed' waits (Some turn) =
+    IsTurn c failed failed' waits turn × (is_early turn ≡ true) × IsNoRead turn × ((s : Option Stall) → IsStallTold s turn)
+
 -- the same where the reader may have failed
 abbrev pub IsReadTurn : Client → Bool → Bool → Bool → Bool → Bool → Turn → Type 0
 IsReadTurn c read_failed read_failed' failed failed' waits Failed = (read_failed' ≡ true) ⊎ (failed' ≡ true)
@@ -176,10 +186,6 @@ IsReadTurn c read_failed read_failed' failed failed' waits (Stalled s) = (read_f
 IsReadTurn c read_failed read_failed' failed failed' waits Lost = (read_failed' ≡ read_failed) × IsTurn c failed failed' waits Lost
 IsReadTurn c read_failed read_failed' failed failed' waits Idle = (read_failed' ≡ read_failed) × IsTurn c failed failed' waits Idle
 IsReadTurn c read_failed read_failed' failed failed' waits Ended = (read_failed' ≡ read_failed) × IsTurn c failed failed' waits Ended
-
--- nothing was to be read
-abbrev pub IsNoRead : Turn → Type 0
-IsNoRead t = (t ≢ Idle) × (t ≢ Ended)
 
 -- how long a piece is
 abbrev pub piece_length : Piece → ℕ

@@ -35,14 +35,14 @@ impl Model for Client {
     ghost view = { λ c. client c.conn (drop c.written c.bytes.items) };
 }
 
-ghost use Rattle.std.specs.Prelude.{◌≡◌, ◌≢◌, ◌⊎◌, ◌++◌, ◌||◌, ◌<◌, ◌≤◌, Ok, [], None, Bool, Option, true, false, is_err, length, take};
+ghost use Rattle.std.specs.Prelude.{◌≡◌, ◌≢◌, ◌⊎◌, ◌++◌, ◌||◌, ◌<◌, ◌≤◌, Ok, [], None, Bool, true, false, is_err, length, take};
 ghost use Rattle.std.specs.Bool.{Decides};
 ghost use Rattle.std.specs.Io.KnownBytes.{Consumes, IsAtEnd};
 ghost use Rattle.session_conn.specs.Turns.{port_of};
 ghost use Rattle.session_conn.specs.Calls.{new_connection};
 ghost use Rattle.session_plan.specs.Replies.{is_closed};
 ghost use Rattle.server_socket.specs.declared.turns.client.Piece.TheVariants as piece;
-ghost use Rattle.server_socket.specs.turns.Turns.{client, is_early, state, Client, Writes, IsSaid, IsTurn, IsReadTurn, IsServing, IsNoRead, IsStallTold, IsDraining, IsOpening, IsOver, IsPiece, piece_length};
+ghost use Rattle.server_socket.specs.turns.Turns.{client, state, Client, Writes, IsSaid, IsTurn, IsWrittenOut, IsReadTurn, IsServing, IsNoRead, IsStallTold, IsDraining, IsOpening, IsOver, IsPiece, piece_length};
 
 /// What a turn that reads goes by: where a piece is read to, and when.
 pub struct ReadContext<'a> {
@@ -156,20 +156,22 @@ impl Client {
         Ok(true)
     }
 
-    /// Writes what is kept once the connection has closed, its closing text too.
-    fn write_rest<S: NonBlockingSink>(&mut self, writer: &mut S) -> Turn
-        requires { is_closed self.old.conn.stage ≡ true }
+    /// Writes what is kept, as far as the writer takes it. Returns how the turn ends with that, or `None` where all is
+    /// written and the connection stands.
+    fn write_out<S: NonBlockingSink>(&mut self, writer: &mut S) -> Option<Turn>
         ensures conn { self.new.conn ≡ self.old.conn }
         ensures written { Writes (S.contents writer.old) (S.contents writer.new) self.old.kept self.new.kept }
-        ensures turn { IsTurn self.new (S.failed writer.old) (S.failed writer.new) (S.waits writer.new) result }
-        ensures early { is_early result ≡ true }
-        ensures told { (stall : Option Stall) → IsStallTold stall result }
-        ensures neither { IsNoRead result }
+        ensures out { IsWrittenOut self.new (S.failed writer.old) (S.failed writer.new) (S.waits writer.new) result }
     {
         match self.write_kept(writer) {
-            Err(_) => Turn::Failed,
-            Ok(false) => Turn::Waits,
-            Ok(true) => Turn::Closed,
+            Err(_) => Some(Turn::Failed),
+            Ok(false) => Some(Turn::Waits),
+            Ok(true) => {
+                if self.conn.stage().is_closed() {
+                    return Some(Turn::Closed);
+                }
+                None
+            }
         }
     }
 
@@ -180,13 +182,9 @@ impl Client {
         ensures turn { IsTurn self.new (S.failed writer.old) (S.failed writer.new) (S.waits writer.new) result }
         ensures told { IsStallTold None result }
     {
-        if self.conn.stage().is_closed() {
-            return self.write_rest(writer);
-        }
-        match self.write_kept(writer) {
-            Err(_) => Turn::Failed,
-            Ok(false) => Turn::Waits,
-            Ok(true) => Turn::Done,
+        match self.write_out(writer) {
+            Some(turn) => turn,
+            None => Turn::Done,
         }
     }
 
@@ -198,7 +196,7 @@ impl Client {
         ensures turn { IsTurn self.new (S.failed writer.old) (S.failed writer.new) (S.waits writer.new) result }
     {
         if self.conn.stage().is_closed() {
-            return self.write_rest(writer);
+            return self.flush(writer);
         }
         if self.keep_behind(text) {
             return self.flush(writer);
@@ -237,15 +235,10 @@ impl Client {
         let Output { bytes, stall, .. } = output;
         self.bytes = bytes;
         self.written = 0;
-        match self.write_kept(writer) {
-            Err(_) => return Turn::Failed,
-            Ok(false) => return Turn::Waits,
-            Ok(true) => {}
+        match self.write_out(writer) {
+            Some(turn) => turn,
+            None => turn_of(stall),
         }
-        if self.conn.stage().is_closed() {
-            return Turn::Closed;
-        }
-        turn_of(stall)
     }
 
     /// The opening: the client is sent INFO. Without memory nothing is sent, and it can be asked again.
@@ -254,13 +247,9 @@ impl Client {
         ensures turn { IsTurn self.new (S.failed writer.old) (S.failed writer.new) (S.waits writer.new) result }
         ensures neither { IsNoRead result }
     {
-        if self.conn.stage().is_closed() {
-            return self.write_rest(writer);
-        }
-        match self.write_kept(writer) {
-            Err(_) => return Turn::Failed,
-            Ok(false) => return Turn::Waits,
-            Ok(true) => {}
+        match self.write_out(writer) {
+            Some(turn) => return turn,
+            None => {}
         }
         let output = self.conn.opened(self.alloc);
         self.tell(output, writer)
@@ -288,13 +277,9 @@ impl Client {
         ensures held { self.old.conn.stall ≢ None → reader.new ≡ reader.old }
     {
         let ReadContext { buf, moment } = context;
-        if self.conn.stage().is_closed() {
-            return self.write_rest(writer);
-        }
-        match self.write_kept(writer) {
-            Err(_) => return Turn::Failed,
-            Ok(false) => return Turn::Waits,
-            Ok(true) => {}
+        match self.write_out(writer) {
+            Some(turn) => return turn,
+            None => {}
         }
         let frames_wait = self.conn.stall().is_some();
         let count = match next_piece(reader, buf, frames_wait) {
@@ -323,13 +308,9 @@ impl Client {
         ensures turn { IsTurn self.new (S.failed writer.old) (S.failed writer.new) (S.waits writer.new) result }
         ensures neither { IsNoRead result }
     {
-        if self.conn.stage().is_closed() {
-            return self.write_rest(writer);
-        }
-        match self.write_kept(writer) {
-            Err(_) => return Turn::Failed,
-            Ok(false) => return Turn::Waits,
-            Ok(true) => {}
+        match self.write_out(writer) {
+            Some(turn) => return turn,
+            None => {}
         }
         let output = self.conn.drain(self.alloc, port, most, now);
         self.tell(output, writer)
