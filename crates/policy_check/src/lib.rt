@@ -2,8 +2,10 @@
 //! that no user can use (docs/POLICY.md, "Warnings"). It knows no connection and no file.
 #![tactic(auto)]
 
+mod effects;
 mod entries;
 mod imports;
+mod samples;
 mod users;
 mod warnings;
 

@@ -1,4 +1,5 @@
 //! What is told of a policy that is likely a mistake.
+use crate::effects::{Free, free_in};
 use crate::entries::{Idle, any, idle_in};
 use crate::imports::is_unused;
 use crate::users::{allow_nothing, has_no_connect};
@@ -128,7 +129,7 @@ fn warn_of_user(
 }
 
 /// Appends what is likely a mistake of permissions at a path: that they allow nothing, or else entries that decide
-/// nothing. `whose` says whose they are, with the user's path.
+/// nothing, or change nothing. `whose` says whose they are, with the user's path.
 fn warn_of_lists(
     alloc: Global,
     value: &Value,
@@ -163,7 +164,41 @@ fn warn_of_lists(
         subscribe.as_slice(),
         whose,
         found,
-    )
+    )?;
+    for free in free_in(alloc, permissions, publish.as_slice(), subscribe.as_slice())? {
+        warn_of_free(alloc, value, free, whose, found)?;
+    }
+    Ok(())
+}
+
+/// Appends a warning for an entry without which nothing is judged otherwise.
+fn warn_of_free(
+    alloc: Global,
+    value: &Value,
+    free: Free,
+    whose: (&String, &Path),
+    found: &mut Vec<Warning>,
+) -> Result<(), NoMemory> {
+    let (entry, owner, side) = (free.entry, whose.0, free.list.side);
+    let (verdict, list) = if free.list.is_deny {
+        (Verdict::DeniedBy(entry), "deny")
+    } else {
+        (Verdict::Allowed(By::Index(entry)), "allow")
+    };
+    let Some(path) = entry_path(alloc, value, whose.1, side, verdict)? else {
+        return Ok(());
+    };
+    let to = side_word(side);
+    let words = format!(in alloc; "{to} {list} entry {entry} of {owner} changes nothing")?;
+    push(found, words, path, None)
+}
+
+/// Returns what a direction is called.
+fn side_word(side: Side) -> &'static str {
+    match side {
+        Side::Publish => "publish",
+        Side::Subscribe => "subscribe",
+    }
 }
 
 /// Appends a warning for each entry of a direction that decides nothing.
@@ -195,10 +230,7 @@ fn warn_of_entry(
         return Ok(());
     };
     let (entry, by, owner) = (idle.entry, idle.by, whose.0);
-    let to = match side {
-        Side::Publish => "publish",
-        Side::Subscribe => "subscribe",
-    };
+    let to = side_word(side);
     let (other, words) = if idle.is_denied {
         (
             Verdict::DeniedBy(by),
