@@ -16,12 +16,6 @@ pub enum Record {
 /// The entries of a history, oldest first, kept as records. A clause sees the list of entries, and for how many records
 /// more there is room.
 ///
-/// ```
-/// history.reserve()?;
-/// history.push_reserved(answer);
-/// history.get(history.len() - 1)
-/// ```
-///
 /// Any entry is found at once, however many there are.
 #[derive(Debug)]
 pub struct History {

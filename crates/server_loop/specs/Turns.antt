@@ -1,6 +1,6 @@
 -- What follows from a connection's turn.
 use Rattle.std.specs.Io.Iter.{u64_saturate}
-use Rattle.std.specs.Prelude.{◌≡◌, ◌+◌, ◌×◌, ◌&&◌, ◌||◌, ℕ, Bool, true, false, Option, None, Some, nat_lt}
+use Rattle.std.specs.Prelude.{◌≡◌, ◌+◌, ◌&&◌, ◌||◌, ℕ, Bool, true, false, Option, None, Some, nat_lt}
 use Rattle.server_socket.specs.declared.reading.ConnectionTurn.{ConnectionTurn}
 use Rattle.worker_port.specs.declared.course.Why.{Why}
 use Rattle.worker_port.specs.declared.course.Why.TheVariants.{Receiver, Slow, Share}
