@@ -1,17 +1,13 @@
 //! Every fault of a document as a policy.
-ghost use Rattle.std.specs.Prelude.{◌≡◌, ◌&&◌, ◌++◌, [], IfOk, OnOk, is_some};
-ghost use Rattle.std.specs.List.{list_any};
-ghost use Rattle.std.specs.Option.{option_map};
-ghost use Rattle.policy_doc.specs.declared.document.NamedAccount.{NamedAccount};
-ghost use Rattle.policy_doc.specs.Document.{is_taken, users_of};
-ghost use Rattle.policy_doc.specs.Imports.{cause_of, cause_with, export_of, fault_at, mapping_fault};
+ghost use Rattle.std.specs.Prelude.{◌≡◌, ◌++◌, [], IfOk, OnOk};
+ghost use Rattle.policy_doc.specs.Document.{users_of};
 ghost use Rattle.fault_lines.specs.Documents.{faults_of_document, with_causes, with_fault, with_import_faults, with_twin, with_twin_faults, with_twins};
 
 use base::NoMemory;
 use bytes::Bytes;
-use mapping::templates::{count_tokens, is_longer, template_fault};
-use policy_doc::exports::may_import;
-use policy_doc::{Accounts, ImportDoc, NamedAccount, Place, PolicyDoc, PolicyFault, UserDoc};
+use policy_doc::{
+    Accounts, NamedAccount, Place, PolicyDoc, PolicyFault, UserDoc, import_fault, stands_before,
+};
 use std::alloc::Global;
 
 /// Returns every fault of a document as a policy, in the order of `PolicyFault`: each user whose name an earlier one
@@ -75,29 +71,6 @@ fn push_twin(
     Ok(())
 }
 
-/// Whether a user has the name, in one of the accounts or among the users.
-fn stands_before(accounts: &[NamedAccount], users: &[UserDoc], name: &Bytes) -> bool
-    ensures { result ≡ is_taken name.now (users_of accounts.now ++ users.now) }
-{
-    in_an_account(accounts, name) || has_user(users, name)
-}
-
-/// Whether a user of one of the accounts has the name.
-fn in_an_account(accounts: &[NamedAccount], name: &Bytes) -> bool
-    ensures { result ≡ list_any (λ (a : NamedAccount). is_taken name.now a.account.users) accounts.now }
-{
-    accounts
-        .iter()
-        .any(|named| has_user(named.account.users.as_slice(), name))
-}
-
-/// Whether one of the users has the name.
-fn has_user(users: &[UserDoc], name: &Bytes) -> bool
-    ensures { result ≡ is_taken name.now users.now }
-{
-    users.iter().any(|user| *name == user.user)
-}
-
 /// Appends the fault of each import that doesn't hold.
 #[tactic(auto, unfolding(crate::specs::Documents::with_import_faults))]
 fn push_imports(accounts: &Accounts, faults: &mut Vec<PolicyFault>) -> Result<(), NoMemory>
@@ -120,7 +93,7 @@ fn push_imports_of(
     ensures { OnOk result (faults.new.items ≡ with_causes accounts.now named.now.name account 0 named.now.account.imports faults.old.items) }
 {
     for (row, import) in named.account.imports.as_slice().iter().enumerate() {
-        let fault = fault_of(accounts, &named.name, import, Place { account, row });
+        let fault = import_fault(accounts, &named.name, import, Place { account, row });
         push_if(fault, faults)?;
     }
     Ok(())
@@ -137,66 +110,4 @@ fn push_if(fault: Option<PolicyFault>, faults: &mut Vec<PolicyFault>) -> Result<
             Ok(())
         }
     }
-}
-
-/// Returns the fault of an import in this place, if it doesn't hold.
-fn fault_of(
-    accounts: &Accounts,
-    importer: &Bytes,
-    import: &ImportDoc,
-    place: Place,
-) -> Option<PolicyFault>
-    ensures { result ≡ option_map (fault_at place) (cause_of accounts.now importer.now import.now) }
-{
-    match accounts.get(&import.account) {
-        None => Some(PolicyFault::UnknownAccount(place)),
-        Some(exporter) => fault_with(importer, import, exporter, place),
-    }
-}
-
-/// Returns the fault of an import from this account.
-fn fault_with(
-    importer: &Bytes,
-    import: &ImportDoc,
-    exporter: &NamedAccount,
-    place: Place,
-) -> Option<PolicyFault>
-    ensures { result ≡ option_map (fault_at place) (cause_with importer.now import.now (Some exporter.now)) }
-{
-    if import.account == *importer {
-        Some(PolicyFault::SelfImport(place))
-    } else if has_prefix_and_template(import) {
-        Some(PolicyFault::PrefixAndTo(place))
-    } else if has_no_mapping(import) {
-        Some(PolicyFault::BadMapping(place))
-    } else if has_export(importer, import, exporter) {
-        None
-    } else {
-        Some(PolicyFault::ImportNotExported(place))
-    }
-}
-
-fn has_prefix_and_template(import: &ImportDoc) -> bool
-    ensures { result ≡ is_some import.now.prefix && is_some import.now.to }
-{
-    import.prefix.is_some() && import.to.is_some()
-}
-
-/// Whether an import has no mapping. The mapping isn't made, so it takes no memory.
-fn has_no_mapping(import: &ImportDoc) -> bool
-    ensures { result ≡ is_some (mapping_fault import.now) }
-{
-    match (&import.to, &import.prefix) {
-        (Some(template), _) => template_fault(&import.subject, template.as_slice()).is_some(),
-        (None, Some(prefix)) => is_longer(prefix.tokens(), 512 - count_tokens(&import.subject)),
-        (None, None) => false,
-    }
-}
-
-/// Whether an account has an export for an import.
-fn has_export(importer: &Bytes, import: &ImportDoc, exporter: &NamedAccount) -> bool
-    ensures { result ≡ is_some (export_of importer.now import.now exporter.now) }
-{
-    let exports = exporter.account.exports.as_slice();
-    may_import(exports, importer, import.kind, &import.subject).is_some()
 }

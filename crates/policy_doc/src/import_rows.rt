@@ -1,5 +1,6 @@
 //! Whether the import rows of a document hold.
 ghost use Rattle.std.specs.Prelude.{◌≡◌, ◌&&◌, Some, is_some};
+ghost use Rattle.std.specs.Option.{option_map};
 ghost use Rattle.policy_doc.specs.Imports.{cause_of, cause_with, export_of, fault_at, fault_in_imports, fault_in_rows, mapping_fault};
 
 use crate::exports::may_import;
@@ -55,12 +56,27 @@ fn fault_in_rows(accounts: &Accounts, account: usize, named: &NamedAccount) -> O
     ensures { result ≡ fault_in_rows accounts.now named.now.name account 0 named.now.account.imports }
 {
     for (row, import) in named.account.imports.as_slice().iter().enumerate() {
-        match cause_of(accounts, &named.name, import) {
-            Some(cause) => return Some(cause.at(Place { account, row })),
+        match import_fault(accounts, &named.name, import, Place { account, row }) {
+            Some(fault) => return Some(fault),
             None => {}
         }
     }
     None
+}
+
+/// Returns the fault of a row of the importer in this place, if it doesn't hold.
+pub fn import_fault(
+    accounts: &Accounts,
+    importer: &Bytes,
+    import: &ImportDoc,
+    place: Place,
+) -> Option<PolicyFault>
+    ensures { result ≡ option_map (fault_at place) (cause_of accounts.now importer.now import.now) }
+{
+    match cause_of(accounts, importer, import) {
+        None => None,
+        Some(cause) => Some(cause.at(place)),
+    }
 }
 
 /// Returns why a row of the importer doesn't hold.

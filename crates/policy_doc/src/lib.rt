@@ -19,4 +19,6 @@ pub use account_mappings::AccountMap;
 pub use accounts::Accounts;
 pub use document::{AccountDoc, Counts, ImportDoc, NamedAccount, PolicyDoc, UserDoc, Version};
 pub use fault::{Place, PolicyFault};
+pub use import_rows::import_fault;
 pub use policy::Policy;
+pub use unique::stands_before;

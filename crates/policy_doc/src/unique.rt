@@ -92,7 +92,7 @@ fn twin_row(earlier: &[NamedAccount], users: &[UserDoc]) -> Option<usize>
 }
 
 /// Whether a user has the name, in one of the accounts or among the users.
-fn stands_before(accounts: &[NamedAccount], users: &[UserDoc], name: &Bytes) -> bool
+pub fn stands_before(accounts: &[NamedAccount], users: &[UserDoc], name: &Bytes) -> bool
     ensures { result ≡ is_taken name.now (users_of accounts.now ++ users.now) }
 {
     in_an_account(accounts, name) || has_user(users, name)

@@ -32,7 +32,7 @@ pub(crate) fn entry_from(
     match side {
         Side::Publish => Ok(parts_from(alloc, path, text, None)?),
         Side::Subscribe => {
-            let (subject, queue) = parts_of(text);
+            let (subject, queue) = entry_parts(text);
             Ok(parts_from(alloc, path, subject, queue)?)
         }
     }
@@ -77,7 +77,7 @@ pub fn pattern_from(alloc: Global, path: &Path, text: &[u8]) -> Result<Pattern, 
 }
 
 /// The text up to the first space and, where there is one, what stands behind it and those that follow it.
-fn parts_of(text: &[u8]) -> (&[u8], Option<&[u8]>)
+pub fn entry_parts(text: &[u8]) -> (&[u8], Option<&[u8]>)
     ensures { (result.0.now, option_copied result.1) ≡ entry_parts text.now }
 {
     match first_space(text) {

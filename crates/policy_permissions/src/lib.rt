@@ -7,5 +7,5 @@ mod entry;
 mod responses;
 
 pub use direction::permissions_under;
-pub use entry::{Side, pattern_from};
-pub use responses::duration_of;
+pub use entry::{Side, entry_parts, pattern_from};
+pub use responses::{duration_of, is_bound};

@@ -102,7 +102,7 @@ fn max_of(alloc: Global, path: &Path, value: &Value) -> Result<Option<u64>, Conf
 }
 
 /// Whether so many responses may be a bound.
-fn is_bound(max: u64) -> bool
+pub fn is_bound(max: u64) -> bool
     ensures { result ≡ is_bound max }
 {
     1 <= max && max <= MOST_ANSWERS

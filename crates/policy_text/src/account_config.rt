@@ -5,3 +5,4 @@ mod document;
 mod user;
 
 pub use document::{MOST_BYTES, read_policy};
+pub use user::is_hashed;

@@ -7,4 +7,4 @@ mod terms;
 
 pub use export_row::exports_under;
 pub use import_row::imports_under;
-pub use names::{account_name_from, has_name_length};
+pub use names::{account_name_from, has_name_length, is_account_name, kind_of};

@@ -1,10 +1,11 @@
 -- What a publish comes to (docs/GUARANTEE.md, "The step").
-use Rattle.std.specs.Prelude.{⊤, ◌≡◌, ◌⊎◌, ◌∷◌, ℕ, List, [], Option, Some, None, Result, Ok, Err, map}
+use Rattle.std.specs.Prelude.{⊤, ◌≡◌, ◌⊎◌, ◌∷◌, ℕ, List, [], Option, Some, None, Result, Ok, Err, IfOk, IfSome, map}
 use Rattle.subjects.specs.Subject.{Token}
 use Rattle.base.specs.declared.no_memory.NoMemory.{NoMemory}
 use Rattle.account_mappings.specs.Drawing.{mapped_by}
 use Rattle.account_mappings.specs.declared.drawing.Mapped.{Mapped}
 use Rattle.account_mappings.specs.declared.drawing.Mapped.TheVariants.{Same, To, Unmapped, TooLong}
+use Rattle.permissions.specs.Verdicts.{publish_verdict, IsJustifiedPublish}
 use Rattle.permissions.specs.declared.verdict.Verdict.{Verdict}
 use Rattle.permissions.specs.declared.verdict.Verdict.TheVariants.{Allowed, DeniedBy, NoAllow, NoQueueAllow}
 use Rattle.events.specs.Messages.{Message}
@@ -19,12 +20,16 @@ use Rattle.events.specs.declared.refusal.HubRefusal.TheVariants as refusal
 use Rattle.world_sessions.specs.deliveries.Sessions.{session_of}
 use Rattle.world_sessions.specs.declared.deliveries.session.Session.{Session}
 use Rattle.world_routing.specs.World.{World}
+use Rattle.policy_doc.specs.declared.document.PolicyDoc.{PolicyDoc}
+use Rattle.policy_ready.specs.imports.Views.{rows_of}
 use Rattle.policy_ready.specs.declared.imports.rows.ImportRow.{ImportRow}
+use Rattle.receivers.specs.views.Marked.{AreMarked}
 use Rattle.receivers.specs.cache.Cached.{IsCurrent}
 use Rattle.receivers.specs.declared.cache.cache.ReceiverCache.{ReceiverCache}
 use Rattle.service_exporter.specs.Routes.{Exporter}
 use Rattle.service_routes.specs.Routes.{Name}
 use Rattle.world_rows.specs.declared.subscription.Subscription.{Subscription}
+use Rattle.world_routing.specs.Remembered.{AreOfPolicy, AreRemembered}
 use Rattle.world_routing.specs.Granting.{verdict_on, counted_on, ended_on}
 use Rattle.policy_ready.specs.imports.Across.{views}
 use Rattle.service_routes.specs.Routes.{spent}
@@ -34,12 +39,15 @@ use Rattle.world_routing.specs.Handing.{met, carried, of_deliveries}
 use Rattle.world_views.specs.Changing.{changed_by, AreNoted}
 use Rattle.world_views.specs.Viewing.{Tables, with_reports}
 use Rattle.world_views.specs.declared.across.Told.{Told}
+use Rattle.world_routing.specs.declared.caches.Caches.{Caches}
 use Rattle.world_routing.specs.declared.carrying.Deliveries.{Deliveries}
 use Rattle.world_routing.specs.declared.planning.Elsewhere.{Elsewhere}
 use Rattle.world_routing.specs.declared.planning.Elsewhere.TheVariants.{Under, Nowhere}
 use Rattle.world_routing.specs.declared.granted_response.GrantedResponse.{GrantedResponse}
 use Rattle.world_sessions.specs.deliveries.Delivered.{delivered}
 use Rattle.world_sessions.specs.deliveries.Replying.{noted_for}
+use Rattle.world_routing.specs.declared.planning.Permitted.{Permitted}
+use Rattle.world_routing.specs.declared.planning.Publish.{Publish}
 use Rattle.world_routing.specs.declared.planning.Plan.{Plan}
 use Rattle.world_routing.specs.declared.planning.Plan.TheVariants.{Refused, ToNobody, ToSome, OnRoutes}
 
@@ -112,12 +120,36 @@ IsPlanned w t (Ok (OnRoutes by items r)) =
     × (of_deliveries items ≡ met w r.deliveries.all) × AreNoted w.moment r.routes
 IsPlanned w t (Err r) = IsRefusal t r
 
+-- what is planned for a publish is what it comes to in each world with these tables
+abbrev pub IsPublishPlanned : Tables → Publish → Result Plan HubRefusal → Type 0
+IsPublishPlanned tables publish answer =
+    (w : World) → tables_of w ≡ tables → IsPlanned w (published_by w publish.conn publish.message.now publish.word) answer
+
+-- and for one that is allowed what it comes to by its account's mappings
+abbrev pub IsPermittedPlanned : Tables → Permitted → Result Plan HubRefusal → Type 0
+IsPermittedPlanned tables permitted answer =
+    (w : World) → tables_of w ≡ tables → IsPlanned w (in_session (session_of w.sessions permitted.publish.conn) (λ z.
+    mapped_to w z permitted.by permitted.publish.message.now permitted.publish.word (mapped_by z.user.mappings permitted.publish.message.now.subject permitted.publish.word))) answer
+
+-- where a publish is planned, the verdict of its user's lists has its reason
+abbrev pub IsPublishReasoned : List Session → Publish → Result Plan HubRefusal → Type 0
+IsPublishReasoned zs publish answer =
+    IfOk answer (λ plan. IfSome (session_of zs publish.conn) (λ (z : Session).
+    IsJustifiedPublish publish.message.now.subject z.user.rules.publish (publish_verdict z.user.rules publish.message.now.subject)))
+
 -- What is planned for deliveries of a message that is allowed, by what is told between them: nobody, where there are none of either
 -- and it is no answer; or what they meet, each with what its session is to note.
 abbrev pub IsToldPlan : List Session → By → Option GrantedResponse → Option Told → List Addressed → Plan → Type 0
 IsToldPlan zs by answered told all plan =
     ((plan ≡ ToNobody by) × (all ≡ []) × (told ≡ None) × (answered ≡ None))
     ⊎ ((met : List Item) × ((n : ℕ) → met ≡ (delivered n (map (noted_for zs) all) zs).1) × IsPlanOf by met (record { all = map (noted_for zs) all; answered = answered }) told plan)
+
+-- What is cached is true of the tables under a policy, and so is the user of each session.
+pub record AreCurrent (doc : PolicyDoc) (zs : List Session) (subs : List Subscription) (caches : Caches) : Type 0 where
+  pub users : AreOfPolicy doc zs
+  pub verdicts : AreRemembered doc caches.verdicts
+  pub cached : IsCurrent (rows_of doc) zs subs caches.receivers.cache
+  pub marked : AreMarked zs subs caches.marks
 
 -- Nothing that is shown has changed, and what is cached is current.
 pub record IsKept (rows : List ImportRow) (zs : List Session) (subs : List Subscription) (exporters : List (Name × Exporter))

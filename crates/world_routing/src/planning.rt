@@ -1,21 +1,19 @@
 //! What a publish comes to, before anything changes.
 ghost use Rattle.std.specs.Prelude.{◌≡◌, All, false, IsTrue, IfErr, IfOk, Ok, OnOk, IfSome, Some, [], None, ℕ, map};
-ghost use Rattle.permissions.specs.Verdicts.{publish_verdict, IsJustifiedPublish};
 ghost use Rattle.events.specs.declared.answer.Addressed.{Addressed as AddressedModel};
 ghost use Rattle.events.specs.declared.refusal.HubRefusal.TheVariants as refusal;
 ghost use Rattle.world_sessions.specs.deliveries.Sessions.{session_of};
 ghost use Rattle.world_sessions.specs.deliveries.Delivered.{delivered};
 ghost use Rattle.world_sessions.specs.deliveries.Replying.{noted_for};
-ghost use Rattle.world_sessions.specs.declared.deliveries.session.Session.{Session as SessionModel};
 ghost use Rattle.receivers.specs.views.Marked.{AreMarked};
 ghost use Rattle.receivers.specs.cache.Cached.{IsCurrent, IsOfLists};
-ghost use Rattle.world_routing.specs.Remembered.{AreOfPolicy, AreRemembered};
+ghost use Rattle.world_routing.specs.Remembered.{AreRemembered};
 ghost use Rattle.world_routing.specs.World.{World};
 ghost use Rattle.world_views.specs.Viewing.{tables_at};
 ghost use Rattle.account_mappings.specs.Drawing.{mapped_by};
 ghost use Rattle.world_routing.specs.Handing.{is_of_delivery};
 ghost use Rattle.world_routing.specs.Routing.{under_subject};
-ghost use Rattle.world_routing.specs.Publishing.{IsElsewhere, IsKept, IsPlanned, IsPlanOf, IsToldPlan, in_session, mapped_to, published_by, seen_as, seen_nowhere, tables_of};
+ghost use Rattle.world_routing.specs.Publishing.{AreCurrent, IsElsewhere, IsKept, IsPermittedPlanned, IsPlanned, IsPlanOf, IsPublishPlanned, IsPublishReasoned, IsToldPlan, in_session, seen_as, seen_nowhere, tables_of};
 ghost use Rattle.policy_ready.specs.imports.Views.{is_route, rows_of};
 
 use crate::caches::Caches;
@@ -404,8 +402,7 @@ fn plan_anew<'p>(
 ) -> Result<Plan, HubRefusal>
     requires cached { IsCurrent (rows_of ready.now) sessions.old subscriptions.old receivers.old.cache }
     requires marked { AreMarked sessions.old subscriptions.old permitted.marks.now }
-    ensures planned { (w : World) → tables_of w ≡ tables_at ready.now permitted.entry.publish.now sessions.old subscriptions.old routes.old.exporters
-        → IsPlanned w (in_session (session_of w.sessions permitted.entry.publish.conn) (λ z. mapped_to w z permitted.entry.by permitted.entry.publish.message.now permitted.entry.publish.word (mapped_by z.user.mappings permitted.entry.publish.message.now.subject permitted.entry.publish.word))) result }
+    ensures planned { IsPermittedPlanned (tables_at ready.now permitted.entry.publish.now sessions.old subscriptions.old routes.old.exporters) permitted.entry result }
     ensures kept { IsKept (rows_of ready.now) sessions.old subscriptions.old routes.old.exporters sessions.new subscriptions.new routes.new.exporters receivers.new.cache }
 {
     let Permitted { publish, by, marks } = permitted;
@@ -458,8 +455,7 @@ fn plan_mapped<'p>(
 ) -> Result<Plan, HubRefusal>
     requires cached { IsCurrent (rows_of ready.now) sessions.old subscriptions.old receivers.old.cache }
     requires marked { AreMarked sessions.old subscriptions.old permitted.marks.now }
-    ensures planned { (w : World) → tables_of w ≡ tables_at ready.now permitted.entry.publish.now sessions.old subscriptions.old routes.old.exporters
-        → IsPlanned w (in_session (session_of w.sessions permitted.entry.publish.conn) (λ z. mapped_to w z permitted.entry.by permitted.entry.publish.message.now permitted.entry.publish.word (mapped_by z.user.mappings permitted.entry.publish.message.now.subject permitted.entry.publish.word))) result }
+    ensures planned { IsPermittedPlanned (tables_at ready.now permitted.entry.publish.now sessions.old subscriptions.old routes.old.exporters) permitted.entry result }
     ensures kept { IsKept (rows_of ready.now) sessions.old subscriptions.old routes.old.exporters sessions.new subscriptions.new routes.new.exporters receivers.new.cache }
 {
     let Permitted {
@@ -533,14 +529,9 @@ fn plan_uncached<'p>(
     ready: &'p Ready,
     publish: Publish<'p>,
 ) -> Result<Plan, HubRefusal>
-    requires users { AreOfPolicy ready.now sessions.old }
-    requires verdicts { AreRemembered ready.now caches.old.verdicts }
-    requires cached { IsCurrent (rows_of ready.now) sessions.old subscriptions.old caches.old.receivers.cache }
-    requires marked { AreMarked sessions.old subscriptions.old caches.old.marks }
-    ensures planned { (w : World) → tables_of w ≡ tables_at ready.now publish.entry.now sessions.old subscriptions.old routes.old.exporters
-        → IsPlanned w (published_by w publish.entry.conn publish.entry.message.now publish.entry.word) result }
-    ensures reason { IfOk result (λ plan. IfSome (session_of sessions.old publish.entry.conn) (λ (z : SessionModel).
-        IsJustifiedPublish publish.entry.message.now.subject z.user.rules.publish (publish_verdict z.user.rules publish.entry.message.now.subject))) }
+    requires { AreCurrent ready.now sessions.old subscriptions.old caches.old }
+    ensures planned { IsPublishPlanned (tables_at ready.now publish.entry.now sessions.old subscriptions.old routes.old.exporters) publish.entry result }
+    ensures reason { IsPublishReasoned sessions.old publish.entry result }
     ensures kept { IsKept (rows_of ready.now) sessions.old subscriptions.old routes.old.exporters sessions.new subscriptions.new routes.new.exporters caches.new.receivers.cache }
     ensures verdicts { AreRemembered ready.now caches.new.verdicts }
     ensures marked { caches.new.marks ≡ caches.old.marks }
@@ -596,14 +587,9 @@ pub fn plan_publish<'p>(
     ready: &'p Ready,
     publish: Publish<'p>,
 ) -> Result<Plan, HubRefusal>
-    requires users { AreOfPolicy ready.now sessions.old }
-    requires verdicts { AreRemembered ready.now caches.old.verdicts }
-    requires cached { IsCurrent (rows_of ready.now) sessions.old subscriptions.old caches.old.receivers.cache }
-    requires marked { AreMarked sessions.old subscriptions.old caches.old.marks }
-    ensures planned { (w : World) → tables_of w ≡ tables_at ready.now publish.entry.now sessions.old subscriptions.old routes.old.exporters
-        → IsPlanned w (published_by w publish.entry.conn publish.entry.message.now publish.entry.word) result }
-    ensures reason { IfOk result (λ plan. IfSome (session_of sessions.old publish.entry.conn) (λ (z : SessionModel).
-        IsJustifiedPublish publish.entry.message.now.subject z.user.rules.publish (publish_verdict z.user.rules publish.entry.message.now.subject))) }
+    requires { AreCurrent ready.now sessions.old subscriptions.old caches.old }
+    ensures planned { IsPublishPlanned (tables_at ready.now publish.entry.now sessions.old subscriptions.old routes.old.exporters) publish.entry result }
+    ensures reason { IsPublishReasoned sessions.old publish.entry result }
     ensures sessions { sessions.new ≡ sessions.old }
     ensures subscriptions { subscriptions.new ≡ subscriptions.old }
     ensures routes { routes.new.exporters ≡ routes.old.exporters }

@@ -2,7 +2,6 @@
 ghost use Rattle.std.specs.Prelude.{◌≡◌, OnOk, map};
 ghost use Rattle.serde_json.specs.View.{view};
 ghost use Rattle.policy_walk.specs.Object.{row_of};
-ghost use Rattle.policy_text.specs.rows.Names.{kind_by, kind_of};
 ghost use Rattle.policy_text.specs.rows.Exports as exports;
 ghost use Rattle.policy_text.specs.rows.Imports as imports;
 ghost use Rattle.policy_faults.specs.walk.Rows.{with_export, with_import, with_kindless, with_service_export, with_service_import, with_source, with_stream_export, with_stream_import};
@@ -13,31 +12,10 @@ use crate::walk::object::check_object;
 use crate::walk::texts::TextKind;
 use base::NoMemory;
 use policy_doc::exports::Kind;
+use policy_text::rows::kind_of;
 use policy_walk::Path;
 use serde_json::Value;
 use std::alloc::Global;
-
-/// The kind of a row, if it has just one of the keys of the two kinds.
-fn kind_of(value: &Value) -> Option<Kind>
-    ensures { result ≡ kind_of (view value.now) }
-{
-    let has_stream = value.get("stream").is_some();
-    let has_service = value.get("service").is_some();
-    let kind = kind_by(has_stream, has_service);
-    kind
-}
-
-/// The kind of a row, by whether it has the key of streams and that of services.
-fn kind_by(has_stream: bool, has_service: bool) -> Option<Kind>
-    ensures { result ≡ kind_by has_stream has_service }
-{
-    match (has_stream, has_service) {
-        (true, false) => Some(Kind::Stream),
-        (false, true) => Some(Kind::Service),
-        (true, true) => None,
-        (false, false) => None,
-    }
-}
 
 /// Checks an export.
 #[derive(Clone, Copy, Debug, PartialEq, Eq)]

@@ -1,19 +1,17 @@
 //! The texts, times and numbers of a policy.
-ghost use Rattle.std.specs.Prelude.{◌≡◌, ◌==◌, OnOk, not, option_copied, position};
-ghost use Rattle.std.specs.List.{list_all};
+ghost use Rattle.std.specs.Prelude.{◌≡◌, OnOk, option_copied};
 ghost use Rattle.serde_json.specs.View.{view};
-ghost use Rattle.policy_permissions.specs.Entry.{behind_spaces, entry_parts, is_entry_text, is_pattern_text, is_queue_text};
+ghost use Rattle.policy_permissions.specs.Entry.{is_entry_text, is_pattern_text, is_queue_text};
 ghost use Rattle.policy_permissions.specs.declared.entry.Side.TheVariants as side;
-ghost use Rattle.policy_permissions.specs.Permissions.{is_bound};
-ghost use Rattle.policy_text.specs.rows.Names.{is_account_byte, is_account_name};
-ghost use Rattle.policy_text.specs.account_config.Policy.{is_hashed};
 ghost use Rattle.policy_text.specs.account_config.Standing.{is_response_type};
 ghost use Rattle.policy_faults.specs.walk.Texts.{fault_named, is_allowed, wanted_by, with_bound, with_max, with_named, with_text, with_version};
 
 use crate::finding::{Finding, Wanted, push, push_wrong};
 use crate::walk::checker::Checker;
 use base::NoMemory;
-use policy_text::rows::has_name_length;
+use policy_permissions::{entry_parts, is_bound};
+use policy_text::account_config::is_hashed;
+use policy_text::rows::{has_name_length, is_account_name};
 use policy_walk::{ConfigFault, Path, read_duration};
 use serde_json::Value;
 use std::alloc::Global;
@@ -167,13 +165,6 @@ fn check_bound(
     Ok(())
 }
 
-/// Whether so many responses may be a bound.
-fn is_bound(number: u64) -> bool
-    ensures { result ≡ is_bound number }
-{
-    1 <= number && number <= 2_147_483_647
-}
-
 /// Checks the number of a version.
 #[derive(Clone, Copy, Debug, PartialEq, Eq)]
 pub(crate) struct VersionNumber;
@@ -203,29 +194,6 @@ fn is_response_type(text: &[u8]) -> bool
     text == b"single".as_slice() || text == b"stream".as_slice()
 }
 
-fn is_account_name(name: &[u8]) -> bool
-    ensures { result ≡ is_account_name name.now }
-{
-    has_name_length(name) && has_account_bytes(name)
-}
-
-/// Whether each byte may stand in an account's name.
-fn has_account_bytes(name: &[u8]) -> bool
-    ensures { result ≡ list_all is_account_byte name.now }
-{
-    name.iter().all(|b| !(*b < 0x21) && !(*b == 0x7f))
-}
-
-/// Whether a password is a hashed one: these begin with `$2`.
-fn is_hashed(password: &[u8]) -> bool
-    ensures { result ≡ is_hashed password.now }
-{
-    match password {
-        [b'$', b'2', ..] => true,
-        _ => false,
-    }
-}
-
 /// Whether a text is a pattern.
 pub(crate) fn is_pattern(text: &[u8]) -> bool
     ensures { result ≡ is_pattern_text text.now }
@@ -237,7 +205,7 @@ pub(crate) fn is_pattern(text: &[u8]) -> bool
 fn is_subscribe_entry(text: &[u8]) -> bool
     ensures { result ≡ is_entry_text side.Subscribe text.now }
 {
-    let (subject, queue) = parts_of(text);
+    let (subject, queue) = entry_parts(text);
     is_pattern(subject) && is_queue(queue)
 }
 
@@ -249,36 +217,4 @@ fn is_queue(text: Option<&[u8]>) -> bool
         None => true,
         Some(text) => is_pattern(text),
     }
-}
-
-/// The text up to the first space and, where there is one, what stands behind it and those that follow it.
-fn parts_of(text: &[u8]) -> (&[u8], Option<&[u8]>)
-    ensures { (result.0.now, option_copied result.1) ≡ entry_parts text.now }
-{
-    match first_space(text) {
-        None => (text, None),
-        Some(at) => (&text[..at], Some(behind_spaces(&text[at..]))),
-    }
-}
-
-/// What stands behind the spaces at a text's front.
-fn behind_spaces(text: &[u8]) -> &[u8]
-    ensures { result.now ≡ behind_spaces text.now }
-{
-    match first_other(text) {
-        None => &[],
-        Some(at) => &text[at..],
-    }
-}
-
-fn first_space(text: &[u8]) -> Option<usize>
-    ensures { result ≡ position (λ b. b == 32) text.now }
-{
-    text.iter().position(|b| *b == b' ')
-}
-
-fn first_other(text: &[u8]) -> Option<usize>
-    ensures { result ≡ position (λ b. not (b == 32)) text.now }
-{
-    text.iter().position(|b| *b != b' ')
 }

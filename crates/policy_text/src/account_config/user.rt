@@ -100,7 +100,7 @@ fn password_from(alloc: Global, path: &Path, password: &[u8]) -> Result<Bytes, C
 }
 
 /// Whether a password is a hashed one: these begin with `$2`.
-fn is_hashed(password: &[u8]) -> bool
+pub fn is_hashed(password: &[u8]) -> bool
     ensures { result ≡ is_hashed password.now }
 {
     match password {

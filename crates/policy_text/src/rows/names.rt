@@ -38,7 +38,8 @@ pub fn account_name_from(alloc: Global, path: &Path, name: &[u8]) -> Result<Byte
     }
 }
 
-fn is_account_name(name: &[u8]) -> bool
+/// Whether a text is an account's name: it has 1 to 256 bytes, and none is a control byte, a space or DEL.
+pub fn is_account_name(name: &[u8]) -> bool
     ensures { result ≡ is_account_name name.now }
 {
     has_name_length(name) && has_account_bytes(name)
@@ -74,7 +75,7 @@ pub(crate) fn pattern_of(
 }
 
 /// The kind of a row, by the one of two keys that is there.
-pub(crate) fn kind_of(value: &Value) -> Option<Kind>
+pub fn kind_of(value: &Value) -> Option<Kind>
     ensures { result ≡ kind_of (view value.now) }
 {
     let has_stream = value.get("stream").is_some();
