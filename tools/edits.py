@@ -158,16 +158,17 @@ def try_alone(rt, crate, edit, flags):
 
 def replace(rt):
     """Has the kit's `rt` try must-fail edits in this way, and under `rt ci` each as a task of its own."""
-    if hasattr(rt, "add_edits"):
-        rt.add_edits = adder(rt)
-    else:
-        replace_in_older_kit(rt)
+    rt.add_edits = adder(rt)
+
+
+def leave_out(rt):
+    """Has the kit's `rt ci` try no edit."""
+    rt.edits_of = lambda _crate: ([], [])
+    rt.add_edits = lambda *_given: (lambda _given: [], lambda: {})
 
 
 def tried_all(rt, crate, edits):
     """Tries a crate's edits, several at a time, and returns for each whether it was refused, and what to say."""
-    if not hasattr(rt, "add_edits"):
-        return rt.must_fail_all(crate, edits, FLAGS)
     with concurrent.futures.ThreadPoolExecutor(lanes(rt)) as pool:
         found = [*pool.map(lambda it: tried(rt, crate, it), edits)]
     return [(kind in (rt.REFUSED, rt.AT_LIMIT), said) for kind, said in found]
@@ -211,44 +212,6 @@ def adder(rt):
         return lambda given: [given[it] for it in keys], lambda: known
 
     return add_edits
-
-
-def replace_in_older_kit(rt):
-    """Has a kit that tries the edits of a crate in one task try them in this way."""
-    kits, in_lanes, crates_of, crates, tried = rt.must_fail_all, rt.in_lanes, rt.crates_of, {}, {}
-
-    def crates_seen(root, aside):
-        found = crates_of(root, aside)
-        crates.update((it.name, it) for it in found)
-        return found
-
-    def try_once(crate, edit):
-        if edit not in tried:
-            tried[edit] = try_alone(rt, crate, edit, FLAGS)
-        return tried[edit]
-
-    def must_fail_all(crate, edits, flags):
-        """Tries a crate's edits on what they touch. The kit tries those that are not refused so on the whole crate."""
-        with concurrent.futures.ThreadPoolExecutor(lanes(rt)) as pool:
-            said = dict(zip(edits, pool.map(lambda it: try_once(crate, it), edits)))
-        begin, left = time.monotonic(), [it for it in edits if not said[it]]
-        whole = dict(zip(left, kits(crate, left, flags)))
-        if left:
-            rt.say(f"{crate.name}: {len(left)} of its edits tried on the whole crate, in {time.monotonic() - begin:.0f} s")
-        return [(True, said[it]) if said[it] else whole[it] for it in edits]
-
-    def in_lanes_each(tasks):
-        """Runs the tasks with one more for each edit, which that of its crate's edits waits for."""
-        found = {}
-        for key, (waits, lines, needs, call) in tasks.items():
-            edits = rt.edits_of(crates[key[0]])[0] if key[1] == "edits" else []
-            for it in edits:
-                alone = lambda given, _, waits=waits, crate=crates[key[0]], it=it: all(map(given.get, waits)) and try_once(crate, it)
-                found[key[0], "edits", it] = waits, lines // 4, needs, alone
-            found[key] = [*waits, *((key[0], "edits", it) for it in edits)], lines, needs, call
-        return in_lanes(found)
-
-    rt.must_fail_all, rt.in_lanes, rt.crates_of = must_fail_all, in_lanes_each, crates_seen
 
 
 def lanes(rt):

@@ -5,10 +5,9 @@ files of a crate once a path. Here the libraries below a crate are found once fo
 remembered with the name, the place, the size and the times of each file that it sums up. Each question looks at all of these
 again, so that what changes meanwhile is seen. All that is remembered is a function of the text: no verdict depends on it.
 
-Where libraries are kept between runs, they are proved over statements, as `rt ci` does it, and each has beside it a sum of what it
-was made from: its own text, and the libraries below as they are built. So a crate is proved again only where a library below came
-out otherwise. A comment in its code leaves a library's bytes as they were; a changed body or proof doesn't, and rattle takes no
-library that was proved over others than these.
+A library in a crate's out/ has beside it a sum of what it was made from: the crate's own text, and the libraries below as they are
+built. So it is built again only where a library below came out otherwise. A comment in its code leaves a library's bytes as they
+were; a changed body or proof doesn't, and rattle takes no library that was proved over others than these.
 """
 
 import contextlib
@@ -88,11 +87,6 @@ def remember(lib):
     lib.Crate.stamp = remembered_stamp(lib)
 
 
-def keeps_work():
-    """Returns whether libraries are built over the work that checks keep in out/incremental, which whoever changes them may want."""
-    return os.environ.get("PROVE_KEEP", "") not in ("", "0")
-
-
 def sum_of_parts(lib):
     """Returns a function that sums up what a crate is made from: its own text, and the libraries below as they are built."""
     formats = {}
@@ -113,8 +107,6 @@ def sum_of_parts(lib):
         below = [(it.name, it.has_c, format_of(it)) for it in crate.below()]
         if not all(it for *_, it in below):
             return None
-        # (a program is made of their code too)
-        below += [lib.sum_of(f"{it.rlib}/toolchain/mir.json") for it in crate.below() if not crate.makes_rlib()]
         sum = hashlib.sha256(repr((crate.said, crate.has_c, lib.text_of(f"{lib.KIT}/WHAT"), below)).encode())
         for file in lib.files_of(crate.folder):
             with open(file, "rb") as it:
@@ -126,7 +118,7 @@ def sum_of_parts(lib):
 
 def keep_by_parts(lib):
     """Has a library of `rt` keep what is built by the sum of what it was made from."""
-    build, stamp, made_from = lib.Crate.build_rlib, lib.Crate.stamp, sum_of_parts(lib)
+    build, made_from = lib.Crate.build_rlib, sum_of_parts(lib)
 
     def is_built(crate):
         made = os.path.isfile(f"{crate.rlib}/format") and made_from(crate)
@@ -136,84 +128,28 @@ def keep_by_parts(lib):
         """Builds a library where it isn't, and notes what it was made from where nothing of that changed meanwhile."""
         if not anew and is_built(crate):
             return 0
-        made, text = made_from(crate), stamp(crate)
-        is_ours = made and not anew and not keeps_work()
-        if is_ours and take(crate, made):
-            status = 0
-        else:
-            status = build_statements(lib, crate, flags) if is_ours else build(crate, flags, anew)
+        made = made_from(crate)
+        status = build(crate, flags, anew)
         if status == 0 and made and made == made_from(crate):
             put(f"{crate.folder}/out/rlib/made-from", made)
-            if is_ours:
-                # (the kit's own `rt` goes by this sum)
-                put(f"{crate.folder}/out/rlib/stamp", text)
-                give(crate, made)
         return status
 
-    def stamp_by_parts(crate):
-        """Returns the stamp of a crate: of a program that can be built now, what it is made from."""
-        return crate.is_program and made_from(crate) or stamp(crate)
+    lib.Crate.is_built, lib.Crate.build_rlib = is_built, build_rlib
 
-    lib.Crate.is_built, lib.Crate.build_rlib, lib.Crate.stamp = is_built, build_rlib, stamp_by_parts
+
+def note_built(lib, crates):
+    """Notes of the libraries that a run has just proved, lowest first, what they were made from."""
+    made_from = sum_of_parts(lib)
+    for crate in crates:
+        if os.path.isfile(f"{crate.rlib}/format"):
+            put(f"{crate.folder}/out/rlib/made-from", made_from(crate))
+            # (the kit's own `rt` goes by this sum)
+            put(f"{crate.folder}/out/rlib/stamp", crate.stamp())
 
 
 def put(file, text):
     with open(file, "w", encoding="utf-8") as it:
         it.write(text)
-
-
-def place_of(made):
-    """Returns the folder for what was made from this, in the store that PROVE_STORE names, or None."""
-    store = os.environ.get("PROVE_STORE")
-    return f"{store}/{made}" if store else None
-
-
-def linked(file, to):
-    """Puts a file that nobody changes in a second place, without a copy where the system can."""
-    try:
-        os.link(file, to)
-    except OSError:
-        shutil.copyfile(file, to)
-
-
-def take(crate, made):
-    """Takes a library that was made from the same out of the store, and returns whether it was there."""
-    kept = place_of(made)
-    if not kept or not os.path.isfile(f"{kept}/format"):
-        return False
-    shutil.rmtree(os.path.dirname(crate.rlib), ignore_errors=True)
-    shutil.copytree(kept, crate.rlib, copy_function=linked)
-    return True
-
-
-def give(crate, made):
-    """Gives a library that is built to the store, so that another clone on this machine begins with it."""
-    kept = place_of(made)
-    if kept and not os.path.isdir(kept):
-        part = f"{kept}.{os.getpid()}"
-        shutil.copytree(crate.rlib, part, copy_function=linked)
-        try:
-            os.rename(part, kept)
-        except OSError:
-            shutil.rmtree(part)
-
-
-def is_checked(crate):
-    """Returns whether a program was checked as it is, over the libraries below as they are built."""
-    file = f"{crate.folder}/out/checked"
-    return os.path.isfile(file) and open(file, encoding="utf-8").read() == crate.stamp()
-
-
-def note_checked(crate, stamp):
-    """Notes that a program with this stamp was checked."""
-    put(f"{crate.folder}/out/checked", stamp)
-
-
-def build_statements(lib, crate, flags):
-    """Proves a library from nothing and builds it with its statements alone, which is what the crates above load. Returns the status."""
-    shutil.rmtree(os.path.dirname(crate.rlib), ignore_errors=True)
-    os.makedirs(os.path.dirname(crate.rlib))
-    return crate.call(lib.RATTLE, "build", *crate.words(flags, keeps=False), "--statements", "-o", crate.rlib)
 
 
 def remember_tests_of_text(lib):

@@ -41,8 +41,22 @@ def jobs_of(key, is_first, idle, waiting):
     return max(FIRST_JOBS if is_first else 1, min(MOST_JOBS, idle, idle // max(1, waiting)))
 
 
-def replace(rt, lanes):
-    """Has the kit's `rt ci` run its tasks in this way."""
+def watched(call, key, watch):
+    """Returns a task that tells a watch, if there is one, that it begins and what it gave."""
+    if not watch:
+        return call
+
+    def work(given, jobs):
+        watch.begin(key)
+        gave = call(given, jobs)
+        watch.end(key, gave)
+        return gave
+
+    return work
+
+
+def replace(rt, lanes, watch=None):
+    """Has the kit's `rt ci` run its tasks in this way. A watch is told of each that it begins and that it ended."""
 
     def in_lanes(tasks):
         behind = chains(rt, tasks)
@@ -59,7 +73,7 @@ def replace(rt, lanes):
                     waiting = sum(tasks[it][1] > 0 for it in ready[at:])
                     jobs = jobs_of(key, is_first, idle, waiting)
                     left.remove(key)
-                    running[pool.submit(tasks[key][3], given, jobs)] = key, 1 if is_first else jobs
+                    running[pool.submit(watched(tasks[key][3], key, watch), given, jobs)] = key, 1 if is_first else jobs
                 ended = concurrent.futures.wait(running, return_when=concurrent.futures.FIRST_COMPLETED).done
                 for it in ended:
                     given[running.pop(it)[0]] = it.result()
