@@ -7,7 +7,7 @@ use policy_doc::{Policy, PolicyDoc};
 use policy_notes::paths::entry_path;
 use policy_notes::positions::Place;
 use policy_permissions::Side;
-use policy_ready::Ready;
+use policy_ready::CompiledPolicy;
 use policy_text::reload::{ReloadFault, prepare};
 use policy_walk::{ConfigFault, Path};
 use serde_json::Value;
@@ -17,7 +17,7 @@ use std::str;
 /// A policy that was read, made ready, with the places of its text.
 #[derive(Drop)]
 pub struct PolicyFile {
-    pub(crate) ready: Ready,
+    pub(crate) ready: CompiledPolicy,
     value: Value,
     places: Places,
 }

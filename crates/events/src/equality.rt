@@ -1,15 +1,13 @@
 //! Whether two events, answers or entries are equal.
 ghost use Rattle.std.specs.Prelude.{◌≡◌};
 ghost use Rattle.std.specs.Bool.{Decides};
-ghost use Rattle.events.specs.declared.answer.Outcome.TheVariants.{Published, Taken, Reloaded};
 ghost use Rattle.events.specs.declared.event.Command.TheVariants.{Connect, Sub, Unsub, Pub, Take, Close, Reload};
 
 use crate::{
     Command, Delivery, Entry, Event, Item, Message, Met, Outcome, Removed, Sent, deliveries_in,
 };
 use base::{Alike, Items, Shared, SharedText, are_alike, are_same_bytes};
-use permissions::By;
-use policy_ready::Ready;
+use policy_ready::CompiledPolicy;
 use stores::outbox::Batch;
 use subjects::{Pattern, Subject};
 
@@ -43,34 +41,26 @@ pub fn are_same_deliveries(one: &Batch<Delivery>, other: &Batch<Delivery>) -> bo
 
 impl Alike for Item {
     fn is_like(&self, other: &Item) -> bool {
-        match self {
-            Item::Entered { conn, sid } => match other {
+        match (self, other) {
+            (
+                Item::Entered { conn, sid },
                 Item::Entered {
                     conn: number,
                     sid: name,
-                } => *conn == *number && sid.is_like(name),
-                _ => false,
-            },
-            Item::Full { conn, sid } => match other {
+                },
+            ) => { *conn == *number && sid.is_like(name) }
+            (
+                Item::Full { conn, sid },
                 Item::Full {
                     conn: number,
                     sid: name,
-                } => *conn == *number && sid.is_like(name),
-                _ => false,
-            },
-            Item::RouteFull(row) => match other {
-                Item::RouteFull(same) => row.is_like(same),
-                _ => false,
-            },
-            Item::MapTooLong(row) => match other {
-                Item::MapTooLong(same) => row.is_like(same),
-                _ => false,
-            },
-            Item::Unmapped => matches!(other, Item::Unmapped),
-            Item::MappedTooLong(index) => match other {
-                Item::MappedTooLong(same) => *index == *same,
-                _ => false,
-            },
+                },
+            ) => { *conn == *number && sid.is_like(name) }
+            (Item::RouteFull(one), Item::RouteFull(two)) => one.is_like(two),
+            (Item::MapTooLong(one), Item::MapTooLong(two)) => one.is_like(two),
+            (Item::Unmapped, Item::Unmapped) => true,
+            (Item::MappedTooLong(one), Item::MappedTooLong(two)) => *one == *two,
+            _ => false,
         }
     }
 }
@@ -88,74 +78,30 @@ impl Alike for Removed {
 
 impl Alike for Outcome {
     fn is_like(&self, other: &Outcome) -> bool {
-        match self {
-            Outcome::Connected => match other {
-                Outcome::Connected => true,
-                _ => false,
-            },
-            Outcome::AuthViolation => match other {
-                Outcome::AuthViolation => true,
-                _ => false,
-            },
-            Outcome::Subscribed => match other {
-                Outcome::Subscribed => true,
-                _ => false,
-            },
-            Outcome::SameSid => match other {
-                Outcome::SameSid => true,
-                _ => false,
-            },
-            Outcome::SubLimit => match other {
-                Outcome::SubLimit => true,
-                _ => false,
-            },
-            Outcome::Denied(one) => match other {
-                Outcome::Denied(two) => one.is_like(two),
-                _ => false,
-            },
-            Outcome::Published(by, items) => is_published(other, *by, items),
-            Outcome::Taken(deliveries, missed) => is_taken(other, deliveries, *missed),
-            Outcome::Unsubscribed => match other {
-                Outcome::Unsubscribed => true,
-                _ => false,
-            },
-            Outcome::Closed => match other {
-                Outcome::Closed => true,
-                _ => false,
-            },
-            Outcome::Reloaded { gone, removed } => is_reloaded(other, gone, removed),
+        match (self, other) {
+            (Outcome::Denied(one), Outcome::Denied(two)) => one.is_like(two),
+            (Outcome::Published(by, met), Outcome::Published(rule, items)) => {
+                by.is_like(rule) && met.is_like(items)
+            }
+            (Outcome::Taken(one, missed), Outcome::Taken(two, lost)) => {
+                are_same_deliveries(one, two) && *missed == *lost
+            }
+            (
+                Outcome::Reloaded { gone, removed },
+                Outcome::Reloaded {
+                    gone: closed,
+                    removed: lost,
+                },
+            ) => { gone.is_like(closed) && removed.is_like(lost) }
+            (Outcome::Connected, Outcome::Connected) => true,
+            (Outcome::AuthViolation, Outcome::AuthViolation) => true,
+            (Outcome::Subscribed, Outcome::Subscribed) => true,
+            (Outcome::SameSid, Outcome::SameSid) => true,
+            (Outcome::SubLimit, Outcome::SubLimit) => true,
+            (Outcome::Unsubscribed, Outcome::Unsubscribed) => true,
+            (Outcome::Closed, Outcome::Closed) => true,
+            _ => false,
         }
-    }
-}
-
-/// Whether a message was accepted by this rule, and met these subscriptions.
-fn is_published(outcome: &Outcome, rule: By, met: &Met) -> bool
-    ensures { Decides result (outcome.now ≡ Published rule met.now) }
-{
-    match outcome {
-        Outcome::Published(by, items) => by.is_like(&rule) && items.is_like(met),
-        _ => false,
-    }
-}
-
-/// Whether these deliveries left an outbox, and whether it had lost one.
-fn is_taken(outcome: &Outcome, left: &Batch<Delivery>, lost: bool) -> bool
-    ensures { Decides result (outcome.now ≡ Taken left.now lost) }
-{
-    match outcome {
-        Outcome::Taken(deliveries, missed) => are_same_deliveries(deliveries, left)
-            && *missed == lost,
-        _ => false,
-    }
-}
-
-/// Whether a reload has closed these sessions and removed these subscriptions.
-fn is_reloaded(outcome: &Outcome, closed: &Items<u64>, lost: &Items<Removed>) -> bool
-    ensures { Decides result (outcome.now ≡ Reloaded closed.now lost.now) }
-{
-    match outcome {
-        Outcome::Reloaded { gone, removed } => gone.is_like(closed) && removed.is_like(lost),
-        _ => false,
     }
 }
 
@@ -271,7 +217,7 @@ fn is_close(command: &Command, number: u64) -> bool
     }
 }
 
-fn is_reload(command: &Command, policy: &Ready) -> bool
+fn is_reload(command: &Command, policy: &CompiledPolicy) -> bool
     ensures { Decides result (command.now ≡ Reload policy.now) }
 {
     match command {

@@ -3,7 +3,7 @@ ghost use Rattle.events.specs.declared.event.Command.TheVariants.{Connect, Sub};
 
 use base::{Copying, NoMemory, Shared, SharedText};
 use messages::{Message, Sid};
-use policy_ready::Ready;
+use policy_ready::CompiledPolicy;
 use std::alloc::Global;
 use subjects::{Pattern, Subject};
 
@@ -66,7 +66,7 @@ pub enum Command {
     },
     /// Another policy comes into force. Sessions stay whose user it has under the same name, with the same password
     /// and account; the others are closed. Subscriptions that it refuses are removed.
-    Reload(Ready),
+    Reload(CompiledPolicy),
 }
 
 impl Copying for Command {

@@ -3,7 +3,7 @@ use crate::Segment;
 use base::{Copying, Items, NoMemory, Shared};
 use events::{Answer, Event, HubRefusal, Message, PublishRefusal};
 use policy_doc::Policy;
-use policy_ready::Ready;
+use policy_ready::CompiledPolicy;
 use records::History;
 use reply_grants::GrantEnd;
 use std::alloc::Global;
@@ -26,7 +26,7 @@ pub struct Caps {
 
 /// The world, and the history of its steps since its opening or last rotation. A clause sees the world, the one before
 /// the entries, and the entries. Of every hub it holds that the policy in force refuses no standing subscription, that
-/// the entries are a legal run, and what else `use_invariant` tells.
+/// the entries are a legal run, and what else `prove_invariant` tells.
 ///
 /// ```
 /// let mut hub = Hub::new(alloc, ready, caps, keys).ok()?;
@@ -93,10 +93,10 @@ impl Hub {
     #[tactic(auto, unfolding(crate::specs::History::IsLegalRun))]
     pub fn new(
         alloc: Global,
-        ready: Ready,
+        ready: CompiledPolicy,
         caps: Caps,
         keys: RandomState,
-    ) -> Result<Hub, (Ready, NoMemory)>
+    ) -> Result<Hub, (CompiledPolicy, NoMemory)>
         requires low { 1 ≤ caps.outbox }
         requires high { caps.outbox ≤ 65536 }
         ensures ok { IfOk result (λ hub. hub ≡ opening_state ready caps.outbox caps.history) }
@@ -134,7 +134,7 @@ impl Hub {
     /// which a hub opens: in it nothing has happened, its policy is valid, and its outboxes hold 1 to 65,536. With number
     /// 0 it is such a world. Whatever entries led to it: each standing subscription has its SUB among those and the
     /// hub's, and has received as many messages as have entered for it since.
-    pub fn use_invariant(&self)
+    pub fn prove_invariant(&self)
         ensures sound { IsSound self.now.world }
         ensures reached { IsReached self.now.opening }
         ensures opening { self.now.opening.number ≡ 0 → IsOpening self.now.opening }
@@ -318,7 +318,7 @@ impl Hub {
     }
 
     /// The policy in force, made ready.
-    pub fn ready(&self) -> &Ready
+    pub fn ready(&self) -> &CompiledPolicy
         ensures { result.now ≡ self.now.world.policy }
     {
         self.world.ready()

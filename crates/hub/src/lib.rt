@@ -11,7 +11,7 @@ pub use events::{
     PublishRefusal, Removed, Sid,
 };
 pub use hub::{Caps, Hub};
-pub use policy_ready::{Ready, User};
+pub use policy_ready::{CompiledPolicy, User};
 pub use records::History;
 pub use segment::Segment;
 pub use world::PlainWorld;

@@ -55,7 +55,7 @@ impl Segment {
 
     /// Tells what holds of every segment: its entries lead, one by one, from its opening world to its closing one; and
     /// the opening world was reached by a legal run from one with which a hub opens. With number 0 it is such a world.
-    pub fn use_invariant(&self)
+    pub fn prove_invariant(&self)
         ensures legal { IsLegalRun self.now.opening self.now.entries self.now.closing }
         ensures reached { IsReached self.now.opening }
         ensures opening { self.now.opening.number ≡ 0 → IsOpening self.now.opening }

@@ -184,7 +184,7 @@ impl Mapping {
     }
 
     /// Tells what holds of every mapping. It does nothing when it runs.
-    pub fn use_invariant(&self)
+    pub fn prove_invariant(&self)
         ensures { IsRowMap self.now }
     {
         let _ = &self.outer;

@@ -54,13 +54,7 @@ impl MessageKind {
     pub(crate) fn is_delivery(self) -> bool
         ensures { result ≡ is_kind Delivery self }
     {
-        match self {
-            MessageKind::Publish => false,
-            MessageKind::Subscribe => false,
-            MessageKind::QueueSubscribe => false,
-            MessageKind::Delivery => true,
-            MessageKind::QueueDelivery => false,
-        }
+        matches!(self, MessageKind::Delivery)
     }
 
     /// Whether allow entries are looked at.

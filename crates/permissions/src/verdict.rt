@@ -34,53 +34,18 @@ impl Verdict {
     pub fn is_allowed(self) -> bool
         ensures { result ≡ is_allowed self }
     {
-        match self {
-            Verdict::Allowed(_) => true,
-            Verdict::DeniedBy(_) => false,
-            Verdict::NoAllow => false,
-            Verdict::NoQueueAllow(_) => false,
-        }
+        matches!(self, Verdict::Allowed(_))
     }
 }
 
 impl Alike for Verdict {
     fn is_like(&self, other: &Verdict) -> bool {
-        match self {
-            Verdict::Allowed(one) => match other {
-                Verdict::Allowed(two) => one.is_like(two),
-                _ => false,
-            },
-            Verdict::DeniedBy(one) => match other {
-                Verdict::DeniedBy(two) => *one == *two,
-                _ => false,
-            },
-            Verdict::NoAllow => match other {
-                Verdict::NoAllow => true,
-                _ => false,
-            },
-            Verdict::NoQueueAllow(one) => match other {
-                Verdict::NoQueueAllow(two) => *one == *two,
-                _ => false,
-            },
-        }
+        *self == *other
     }
 }
 
 impl Alike for By {
     fn is_like(&self, other: &By) -> bool {
-        match self {
-            By::All => match other {
-                By::All => true,
-                _ => false,
-            },
-            By::Index(one) => match other {
-                By::Index(two) => *one == *two,
-                _ => false,
-            },
-            By::Grant => match other {
-                By::Grant => true,
-                _ => false,
-            },
-        }
+        *self == *other
     }
 }

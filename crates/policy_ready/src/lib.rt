@@ -5,4 +5,4 @@
 pub mod imports;
 mod ready;
 
-pub use ready::{Ready, User};
+pub use ready::{CompiledPolicy, User};

@@ -79,17 +79,17 @@ struct Parts {
 /// A policy made ready to be asked: each of its users has compiled permissions, each import row its mapping. Copies share
 /// it. A clause sees the policy.
 #[derive(Debug)]
-pub struct Ready {
+pub struct CompiledPolicy {
     shared: Arc<Parts>,
 }
 
-impl Drop for Ready {
+impl Drop for CompiledPolicy {
     fn drop(self) {
         let Self { shared: _ } = self;
     }
 }
 
-impl Model for Ready {
+impl Model for CompiledPolicy {
     ghost use Rattle.std.specs.Prelude.{◌≡◌};
     ghost use Rattle.policy_doc.specs.declared.document.PolicyDoc.{PolicyDoc};
 
@@ -107,14 +107,14 @@ impl Model for Ready {
         × ((arc_value r.shared).rows ≡ rows_of (arc_value r.shared).policy) };
 }
 
-impl Ready {
+impl CompiledPolicy {
     ghost use Rattle.std.specs.Prelude.{◌≡◌, Some, IfOk, IfErr};
     ghost use Rattle.std.specs.Option.{option_copied, option_map};
     ghost use Rattle.policy_ready.specs.Users.{users_of, user_named, user_with_password, user_again};
     ghost use Rattle.policy_ready.specs.imports.Views.{rows_of};
 
     /// The policy, made ready. Where memory could not be had, the policy is handed back.
-    pub fn of(alloc: Global, policy: Policy) -> Result<Ready, (Policy, NoMemory)>
+    pub fn of(alloc: Global, policy: Policy) -> Result<CompiledPolicy, (Policy, NoMemory)>
         ensures ok { IfOk result (λ ready. ready ≡ policy) }
         ensures err { IfErr result (λ refused. refused.0 ≡ policy) }
     {
@@ -204,16 +204,16 @@ impl Ready {
     }
 }
 
-impl Copying for Ready {
-    fn copy(&self, _alloc: Global) -> Result<Ready, NoMemory> {
-        Ok(Ready {
+impl Copying for CompiledPolicy {
+    fn copy(&self, _alloc: Global) -> Result<CompiledPolicy, NoMemory> {
+        Ok(CompiledPolicy {
             shared: Arc::try_clone(&self.shared)?,
         })
     }
 }
 
-impl Alike for Ready {
-    fn is_like(&self, other: &Ready) -> bool {
+impl Alike for CompiledPolicy {
+    fn is_like(&self, other: &CompiledPolicy) -> bool {
         self.policy().doc().is_like(other.policy().doc())
     }
 }
@@ -228,14 +228,14 @@ ghost use Rattle.policy_ready.specs.Users.{is_same_user, users_in, users_of as a
 ghost use Rattle.policy_ready.specs.imports.Views.{rows_of};
 
 /// Shares what was made ready. Where memory could not be had, the policy is handed back.
-fn share(alloc: Global, parts: Parts) -> Result<Ready, (Policy, NoMemory)>
+fn share(alloc: Global, parts: Parts) -> Result<CompiledPolicy, (Policy, NoMemory)>
     requires users { parts.users.items ≡ all_users_of parts.policy }
     requires rows { parts.rows ≡ rows_of parts.policy }
     ensures ok { IfOk result (λ ready. ready ≡ parts.policy) }
     ensures err { IfErr result (λ refused. refused.0 ≡ parts.policy) }
 {
     match Arc::new(alloc, parts) {
-        Ok(shared) => Ok(Ready { shared }),
+        Ok(shared) => Ok(CompiledPolicy { shared }),
         Err(refused) => Err((refused.value.policy, NoMemory)),
     }
 }

@@ -53,20 +53,7 @@ impl ConfigFault {
     pub fn is_memory(&self) -> bool
         ensures { result ≡ is_memory self.now }
     {
-        match self {
-            ConfigFault::NoMemory => true,
-            ConfigFault::TooLarge => false,
-            ConfigFault::NotJson => false,
-            ConfigFault::UnknownKey(_) => false,
-            ConfigFault::WrongType(_) => false,
-            ConfigFault::BadSubject(_) => false,
-            ConfigFault::BadDuration(_) => false,
-            ConfigFault::BadMax(_) => false,
-            ConfigFault::BadName(_) => false,
-            ConfigFault::HashedPassword(_) => false,
-            ConfigFault::BadWeight(_) => false,
-            ConfigFault::BadDestination(_) => false,
-        }
+        matches!(self, ConfigFault::NoMemory)
     }
 
     /// The fault's name, with a space where a path follows.

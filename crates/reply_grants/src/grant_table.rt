@@ -86,7 +86,7 @@ pub(crate) fn is_live(
 }
 
 /// Counts one response more on the subject, if it has a grant.
-pub(crate) fn count_response(table: &mut GrantTable, subject: &SubjectRef<'_>)
+pub(crate) fn spend(table: &mut GrantTable, subject: &SubjectRef<'_>)
     ensures window { (gone : ℕ) → window gone table.new.entries ≡ after_response subject.now (window gone table.old.entries) }
     ensures held { length table.new.entries ≡ length table.old.entries }
     ensures free { spare table.new ≡ spare table.old }

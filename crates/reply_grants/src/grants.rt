@@ -1,6 +1,6 @@
 use crate::ended::{GrantEnd, end_of};
 use crate::grant_table::{
-    GrantTable, Granted, MOST, count_response, drop_dead, drop_one, dropped, is_live, put,
+    GrantTable, Granted, MOST, drop_dead, drop_one, dropped, is_live, put, spend,
 };
 use crate::plain::{PlainGrant, plain_grants};
 use base::{Items, NoMemory};
@@ -55,7 +55,7 @@ impl Grants {
     }
 
     /// Tells what holds of all: at most 1,024 stand. It does nothing when it runs.
-    pub fn use_invariant(&self)
+    pub fn prove_invariant(&self)
         ensures { length self.now ≤ 1024 }
     {
         let _ = &self.table;
@@ -99,7 +99,7 @@ impl Grants {
     pub fn spend(&mut self, subject: &SubjectRef<'_>)
         ensures { self.new ≡ after_response subject.now self.old }
     {
-        count_response(&mut self.table, subject);
+        spend(&mut self.table, subject);
     }
 
     /// Drops the subject's grant, if it has one, where as many responses have passed on it as these terms allow, however

@@ -101,7 +101,7 @@ impl Replies {
     }
 
     /// Counts a response on the subject's grant, if it has one.
-    pub fn count_response(&mut self, subject: &SubjectRef<'_>)
+    pub fn spend(&mut self, subject: &SubjectRef<'_>)
         ensures { self.new ≡ responded_in subject.now self.old }
     {
         match &mut self.table {

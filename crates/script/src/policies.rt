@@ -8,7 +8,7 @@ ghost use Rattle.script.specs.Server.{installed};
 
 use crate::server::Server;
 use base::NoMemory;
-use hub::Ready;
+use hub::CompiledPolicy;
 use lines::reload_lines::write_reload;
 use lines::script_text::{Progress, write_full, write_refused};
 use policy_text::reload::{ReloadFault, prepare, read_valid_policy};
@@ -85,7 +85,7 @@ pub fn on_reload(
 }
 
 /// A policy comes into force, and what the hub tells of it is printed. Returns whether the history is full.
-fn install(server: &mut Server, policy: Ready, out: &mut Vec<u8>) -> Result<bool, NoMemory>
+fn install(server: &mut Server, policy: CompiledPolicy, out: &mut Vec<u8>) -> Result<bool, NoMemory>
     ensures { (clients : List Client) → IfOk result (λ stops. IsEffect (reload_told (installed policy server.old) clients) out.old.items out.new.items clients server.new stops) }
 {
     match server.install(policy)? {

@@ -7,7 +7,7 @@ ghost use Rattle.script.specs.Session.{bytes_call, drain_call, end_call, is_memo
 
 use crate::sessions::{Conn, Direct, Output, Stall, Words};
 use base::NoMemory;
-use hub::{Answer, Caps, Command, Event, Hub, HubRefusal, Ready};
+use hub::{Answer, Caps, Command, CompiledPolicy, Event, Hub, HubRefusal};
 use policy_doc::Policy;
 use std::alloc::Global;
 use std::collections::VecDeque;
@@ -170,7 +170,7 @@ impl Server {
     /// A policy comes into force, by one event at the present moment. Returns the event's entry, and nothing where the
     /// history is full.
     #[tactic(auto, unfolding(crate::specs::Server::installed))]
-    pub fn install(&mut self, policy: Ready) -> Result<Option<Answer>, NoMemory>
+    pub fn install(&mut self, policy: CompiledPolicy) -> Result<Option<Answer>, NoMemory>
         ensures { IfOk result (λ answer. (answer, self.new) ≡ installed policy self.old) }
     {
         let event = Event {
@@ -198,7 +198,7 @@ fn open_hub(alloc: Global, keys: RandomState, policy: Policy, caps: Caps) -> Res
     requires high { caps.outbox ≤ 65536 }
     ensures { IfOk result (λ hub. hub ≡ opened caps policy) }
 {
-    match Ready::of(alloc, policy) {
+    match CompiledPolicy::of(alloc, policy) {
         Ok(ready) => match Hub::new(alloc, ready, caps, keys) {
             Ok(hub) => Ok(hub),
             Err((_, refused)) => Err(refused),

@@ -7,7 +7,7 @@ use crate::policy_source::Policies;
 use crate::reloads::{NextPolicy, next_policy, tell_refused, tell_warnings};
 use crate::settings::Settings;
 use mio::net::TcpListener;
-use policy_ready::Ready;
+use policy_ready::CompiledPolicy;
 use server_log::ServerLog;
 use server_log::prints::Prints;
 use server_loop::StatsOutput;
@@ -39,7 +39,7 @@ pub(crate) fn first_policy<R: Wait + Clock + AllocGlobal, P: Policies>(
     rt: &R,
     policies: &mut P,
     log: &ServerLog<'_>,
-) -> Result<Option<Ready>, Fault> {
+) -> Result<Option<CompiledPolicy>, Fault> {
     // (nobody else opens anything yet)
     let descriptors = Mutex::new(());
     match next_policy(rt.alloc(), policies, &descriptors) {
@@ -105,7 +105,7 @@ pub(crate) fn tell_listening<R: Wait + AllocGlobal>(
 pub(crate) fn open_hub(
     alloc: Global,
     settings: Settings<'_>,
-    ready: Ready,
+    ready: CompiledPolicy,
     keys: RandomState,
 ) -> Result<(Hub, Limits), Fault>
     requires { AreServable settings.workers settings.outbox settings.history settings.history_bytes settings.connections }

@@ -12,7 +12,7 @@ use log_lines::{
 };
 use permissions::Verdict;
 use policy_doc::permission_doc::PermEntry;
-use policy_ready::{Ready, User};
+use policy_ready::{CompiledPolicy, User};
 use std::alloc::Global;
 use std::io;
 use std::sync::{Mutex, Wait};
@@ -39,7 +39,7 @@ const NOT_SAID: Program<'static> = Program {
 #[derive(Drop)]
 struct InForce {
     epoch: u128,
-    ready: Ready,
+    ready: CompiledPolicy,
 }
 
 /// When a line is told, and how many were left out before it.
@@ -61,7 +61,10 @@ pub struct ServerLog<'a> {
 }
 
 /// Returns the user of this name, if the policy has one.
-pub(crate) fn user_named<'x>(policy: &'x Option<Ready>, name: Option<&[u8]>) -> Option<&'x User> {
+pub(crate) fn user_named<'x>(
+    policy: &'x Option<CompiledPolicy>,
+    name: Option<&[u8]>,
+) -> Option<&'x User> {
     let (Some(policy), Some(name)) = (policy, name) else {
         return None;
     };
@@ -199,7 +202,7 @@ impl<'a> ServerLog<'a> {
     }
 
     /// Notes the policy that has an epoch, or is to have it. Without memory it isn't known.
-    pub fn note_policy<R: Wait>(&self, rt: &R, epoch: u128, ready: &Ready) {
+    pub fn note_policy<R: Wait>(&self, rt: &R, epoch: u128, ready: &CompiledPolicy) {
         let Ok(ready) = ready.copy(self.alloc) else {
             return;
         };
@@ -217,7 +220,7 @@ impl<'a> ServerLog<'a> {
     }
 
     /// Returns the policy of an epoch, if it is known.
-    pub(crate) fn policy_of<R: Wait>(&self, rt: &R, epoch: u128) -> Option<Ready> {
+    pub(crate) fn policy_of<R: Wait>(&self, rt: &R, epoch: u128) -> Option<CompiledPolicy> {
         let policies = self.policies.lock(rt);
         let found = policies.as_slice().iter().find(|it| it.epoch == epoch)?;
         found.ready.copy(self.alloc).ok()

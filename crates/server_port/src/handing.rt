@@ -37,7 +37,7 @@ impl<L: Run, R: Wait, G: Gate + Drop> ServerPort<'_, L, R, G> {
     {
         match self.shared.rotate_as(self.rt, &mut self.seat) {
             Ok(segment) => {
-                segment.use_invariant();
+                segment.prove_invariant();
                 self.take_over(segment);
                 true
             }

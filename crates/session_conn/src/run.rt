@@ -75,12 +75,7 @@ impl Ahead {
                 let room = text.subject().len() + 64;
                 self.put(message_of(stage, frame), room)
             }
-            Frame::Connect(_) => false,
-            Frame::Sub { .. } => false,
-            Frame::Unsub { .. } => false,
-            Frame::Ping => false,
-            Frame::Pong => false,
-            Frame::Fault(_) => false,
+            _ => false,
         }
     }
 

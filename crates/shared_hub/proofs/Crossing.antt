@@ -30,7 +30,7 @@ use Rattle.world.specs.contracts.world.World.TheInside as world_in
 use Rattle.world.specs.contracts.world.World as world
 use Rattle.hub.specs.contracts.hub.Hub.TheInside as hub_in
 use Rattle.hub.specs.contracts.hub.Hub as hub
-use Rattle.policy_ready.proofs.ready.Ready.TheSendSync as ready
+use Rattle.policy_ready.proofs.ready.CompiledPolicy.TheSendSync as ready
 use Rattle.world_sessions.proofs.sessions.Sessions.TheSendSync as sessions
 use Rattle.world.proofs.Handed.{caches_send, routes_send}
 use Rattle.hub.proofs.Handed.{history_send}

@@ -84,7 +84,7 @@ fn entry_at<'a>(segments: &'a [Segment], hub: &'a Hub, number: u64) -> Option<&'
 fn segment_entry(segment: &Segment, number: u64) -> Option<&Answer>
     ensures { IsLookUp segment.now number (option_copied result) }
 {
-    segment.use_invariant();
+    segment.prove_invariant();
     entry_after(segment.opening().number(), segment.entries(), number)
 }
 
@@ -92,7 +92,7 @@ fn segment_entry(segment: &Segment, number: u64) -> Option<&Answer>
 fn tail_entry(hub: &Hub, number: u64) -> Option<&Answer>
     ensures { IsLookUp (tail_of hub.now) number (option_copied result) }
 {
-    hub.use_invariant();
+    hub.prove_invariant();
     entry_after(hub.opening().number(), hub.history(), number)
 }
 

@@ -1,4 +1,4 @@
-use hub::{Caps, Command, Event, Hub, Item, Outcome, Ready};
+use hub::{Caps, Command, CompiledPolicy, Event, Hub, Item, Outcome};
 use policy_text::reload::prepare;
 use std::alloc::Global;
 use std::hash::RandomState;
@@ -33,7 +33,7 @@ fn told_of(outcome: &Outcome) -> Told {
 }
 
 /// A policy whose mapping gives each subject one token more. It has no clause, so that the prover knows nothing of its text.
-fn longer(alloc: Global) -> Option<Ready> {
+fn longer(alloc: Global) -> Option<CompiledPolicy> {
     let text =
         "{\"version\":2,\"accounts\":{\"A\":{\"users\":[{\"user\":\"demo\",\"password\":\"demo\"}],\"mappings\":{\">\":\"p.>\"}}}}";
     prepare(alloc, text.as_bytes()).ok()

@@ -1,5 +1,5 @@
 use base::NoMemory;
-use hub::{Answer, Caps, Command, Event, Hub, HubRefusal, Ready, Segment};
+use hub::{Answer, Caps, Command, CompiledPolicy, Event, Hub, HubRefusal, Segment};
 use policy_doc::Policy;
 use std::alloc::Global;
 use std::hash::RandomState;
@@ -31,8 +31,8 @@ enum Told {
 const FULL: Told = Told::Refused(HubRefusal::HistoryFull);
 
 /// The built-in policy. It has no clause, so that the prover knows nothing of its text.
-fn ready(alloc: Global) -> Option<Ready> {
-    Ready::of(alloc, Policy::builtin(alloc).ok()?).ok()
+fn ready(alloc: Global) -> Option<CompiledPolicy> {
+    CompiledPolicy::of(alloc, Policy::builtin(alloc).ok()?).ok()
 }
 
 /// A hub over the built-in policy, whose history holds two entries.
@@ -163,7 +163,12 @@ fn show_new(alloc: Global, keys: RandomState, asks: &[Ask], in_one_run: bool) ->
 }
 
 /// The number of the entry of a new hub's first event.
-fn first_number(alloc: Global, ready: Ready, event: Event, keys: RandomState) -> Option<u64> {
+fn first_number(
+    alloc: Global,
+    ready: CompiledPolicy,
+    event: Event,
+    keys: RandomState,
+) -> Option<u64> {
     let caps = Caps {
         outbox: 16,
         history: 2,

@@ -3,7 +3,7 @@ use base::Items;
 use bytes::Bytes;
 use policy_doc::permission_doc::{Direction, PermDoc, PermEntry};
 use policy_doc::{AccountDoc, Accounts, Policy, PolicyDoc, UserDoc, Version};
-use policy_ready::Ready;
+use policy_ready::CompiledPolicy;
 use std::alloc::Global;
 use subjects::Pattern;
 
@@ -24,7 +24,7 @@ pub enum Given {
 }
 
 /// The policy, ready for use. There is none where memory could not be had.
-pub fn ready_of(alloc: Global, given: Given) -> Option<Ready> {
+pub fn ready_of(alloc: Global, given: Given) -> Option<CompiledPolicy> {
     let users = match given {
         Given::All => one_user(alloc, b"demo", None)?,
         Given::Only(subject) => only(alloc, subject)?,
@@ -98,12 +98,12 @@ fn account(alloc: Global, users: Items<UserDoc>) -> AccountDoc {
     }
 }
 
-fn ready(alloc: Global, accounts: Accounts) -> Option<Ready> {
+fn ready(alloc: Global, accounts: Accounts) -> Option<CompiledPolicy> {
     let doc = PolicyDoc {
         accounts,
         version: Version::One,
         default_permissions: None,
     };
     let policy = Policy::check(alloc, doc).ok()?;
-    Ready::of(alloc, policy).ok()
+    CompiledPolicy::of(alloc, policy).ok()
 }

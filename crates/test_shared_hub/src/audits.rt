@@ -2,7 +2,7 @@ ghost use Rattle.std.specs.Prelude.{◌≡◌};
 
 use base::{Copying, Shared as Handle};
 use events::{Command, Entry, Event, Outcome};
-use policy_ready::Ready;
+use policy_ready::CompiledPolicy;
 use shared_hub::{Audit, AuditFault, Caps, Hub, Parts, Receipt, Run, Seat, Segment};
 use std::alloc::Global;
 use std::hash::RandomState;
@@ -311,7 +311,7 @@ fn subscribed(number: u64, epoch: u128, what: Command) -> Entry {
 }
 
 /// The receipt of an entry under a policy, if there is one.
-pub fn receipt_of(alloc: Global, entry: Entry, ready: Ready) -> Option<Receipt> {
+pub fn receipt_of(alloc: Global, entry: Entry, ready: CompiledPolicy) -> Option<Receipt> {
     match Handle::new(alloc, entry) {
         Ok(answer) => Receipt::from_parts(answer, ready),
         Err(_) => None,

@@ -1,7 +1,7 @@
 //! What the threads of the tests do.
 use crate::services::{chat, make_requests, serve};
 use events::{Command, Delivery, Entry, Event, HubRefusal, Outcome, Port};
-use policy_ready::Ready;
+use policy_ready::CompiledPolicy;
 use shared_hub::{Receipt, Run, Seat, Segment, SharedHub, SharedPort};
 use std::alloc::Global;
 use std::sync::Wait;
@@ -114,7 +114,7 @@ pub(crate) struct Worker<L: Run> {
 /// The policies that a thread has prepared, and the segments that it has rotated out.
 #[derive(Drop)]
 pub(crate) struct Stock {
-    pub(crate) policies: Vec<Ready>,
+    pub(crate) policies: Vec<CompiledPolicy>,
     pub(crate) segments: Vec<Segment>,
 }
 
@@ -293,7 +293,7 @@ fn subscribe<D: Desk>(desk: &mut D, alloc: Global, conn: u64, subject: &str, cou
     Said::Subscribed
 }
 
-fn prepare(alloc: Global, given: Given, policies: &mut Vec<Ready>) -> Said {
+fn prepare(alloc: Global, given: Given, policies: &mut Vec<CompiledPolicy>) -> Said {
     match ready_of(alloc, given) {
         None => Said::Otherwise,
         Some(ready) => {
@@ -350,6 +350,6 @@ fn is_one(deliveries: &[Delivery], payload: &str) -> bool {
     }
 }
 
-fn reload(policies: &mut Vec<Ready>) -> Option<Command> {
+fn reload(policies: &mut Vec<CompiledPolicy>) -> Option<Command> {
     Some(Command::Reload(policies.pop()?))
 }

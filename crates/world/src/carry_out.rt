@@ -9,7 +9,7 @@ use crate::world::World;
 use base::{Boxed, NoMemory};
 use events::{Outcome, Sid};
 use permissions::deny_marks::DenyMarks;
-use policy_ready::{Ready, User};
+use policy_ready::{CompiledPolicy, User};
 use service_routes::Routes;
 use service_routes::service_rows::RenewedRows;
 use std::collections::VecDeque;
@@ -141,7 +141,7 @@ impl World {
         ensures { (outcome : Outcome) → self.new ≡ done self.old (change.Leave conn) outcome }
     {
         self.caches.receivers.clear_cache();
-        self.sessions.use_invariant();
+        self.sessions.prove_invariant();
         self.sessions.remove(conn);
         self.subscriptions.remove(conn);
         trim_marks(&mut self.caches.marks, &self.subscriptions);
@@ -149,7 +149,13 @@ impl World {
 
     /// Puts a policy into force, with the users of the sessions that stay, removes the subscriptions of these ids, and has
     /// these marks for the others.
-    fn install(&mut self, ready: Ready, users: VecDeque<User>, lost: Vec<u64>, marks: DenyMarks)
+    fn install(
+        &mut self,
+        ready: CompiledPolicy,
+        users: VecDeque<User>,
+        lost: Vec<u64>,
+        marks: DenyMarks,
+    )
         requires users { users.items ≡ filter_map (user_again_of ready) self.old.sessions }
         requires lost { lost.items ≡ filter_map (lost_id ready self.old.sessions) self.old.subscriptions }
         requires marks { AreMarked (remaining self.old.moment ready self.old.sessions) self.old.subscriptions marks }
@@ -169,7 +175,7 @@ impl World {
 }
 
 /// Takes the routes over to another policy: those that live at a moment, on the rows that it has again.
-fn keep_routes(routes: &mut Routes, old: &Ready, new: &Ready, now: u64)
+fn keep_routes(routes: &mut Routes, old: &CompiledPolicy, new: &CompiledPolicy, now: u64)
     ensures { routes.new.exporters ≡ kept (renewed old.now new.now) (pruned now routes.old.exporters) }
 {
     routes.prune(now);

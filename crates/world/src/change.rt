@@ -2,7 +2,7 @@
 use base::Boxed;
 use events::{Outcome, Sid};
 use permissions::deny_marks::DenyMarks;
-use policy_ready::{Ready, User};
+use policy_ready::{CompiledPolicy, User};
 use std::collections::VecDeque;
 use world_routing::{Deliveries, Routing};
 use world_sessions::Session;
@@ -41,7 +41,7 @@ pub(crate) enum Change {
     /// A policy comes into force, with the users of the sessions that stay, session by session, the ids of the
     /// subscriptions that go, oldest first, and the marks of those that stay.
     Install {
-        ready: Ready,
+        ready: CompiledPolicy,
         users: VecDeque<User>,
         lost: Vec<u64>,
         marks: DenyMarks,

@@ -2,14 +2,14 @@
 ghost use Rattle.std.specs.Prelude.{◌≡◌, IfOk, IfErr};
 
 use crate::change::{Change, Decided};
-use crate::reload::{Lost, is_valid, lost_by};
+use crate::reload::{Lost, lost_by, prove_valid};
 use crate::verdict::on_subscription;
 use crate::world::World;
 use base::{Boxed, Copying, Items, NoMemory, Shared, SharedText};
 use bytes::Bytes;
 use events::{Command, HubRefusal, Message, Met, Outcome, Sid};
 use permissions::Verdict;
-use policy_ready::Ready;
+use policy_ready::CompiledPolicy;
 use std::alloc::Global;
 use subjects::{Pattern, Subject};
 use world_routing::marks::{Renewing, marks_again};
@@ -258,12 +258,12 @@ impl World {
     }
 
     /// Decides a reload: whose sessions stay, which subscriptions they lose, and the marks of the others.
-    fn reload(&self, ready: &Ready) -> Result<Decided, HubRefusal>
+    fn reload(&self, ready: &CompiledPolicy) -> Result<Decided, HubRefusal>
         requires sound { AreEntitled self.now.sessions self.now.subscriptions }
         ensures decided { IsDecided (pruned_world self.now) (moved (pruned_world self.now) (command.Reload ready.now)) result }
         ensures reason { IfOk result (λ d. IsReasoned self.now (command.Reload ready.now) d.outcome) }
     {
-        is_valid(ready);
+        prove_valid(ready);
         let users = self.sessions.users_again(ready)?;
         let gone = self.sessions.closed(ready)?;
         let same = self.sessions.same_lists(ready)?;

@@ -2,7 +2,7 @@
 use crate::copies::{PlainSession, PlainSubscription, plain_sessions, plain_subscriptions};
 use crate::world::World;
 use base::{Alike, Copying, Items, NoMemory};
-use policy_ready::Ready;
+use policy_ready::CompiledPolicy;
 use service_routes::NamedExporter;
 use std::marker::Model;
 
@@ -10,7 +10,7 @@ use std::marker::Model;
 /// messages have one more owner.
 #[derive(Drop)]
 pub struct PlainWorld {
-    ready: Ready,
+    ready: CompiledPolicy,
     capacity: usize,
     epoch: u128,
     moment: u64,

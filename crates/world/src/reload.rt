@@ -14,7 +14,7 @@ use crate::verdict::on_subscription;
 use base::{Copying, NoMemory};
 use events::Removed;
 use permissions::{Verdict, each_has_reason};
-use policy_ready::{Ready, User};
+use policy_ready::{CompiledPolicy, User};
 use std::alloc::Global;
 use world_sessions::{Session, Sessions};
 use world_subscriptions::{SharedSubscription, Subscriptions};
@@ -29,7 +29,7 @@ pub(crate) struct Lost {
 }
 
 /// Returns whom a session that stays acts for.
-fn user_for<'r>(ready: &'r Ready, session: Option<&Session>) -> Option<&'r User>
+fn user_for<'r>(ready: &'r CompiledPolicy, session: Option<&Session>) -> Option<&'r User>
     ensures { option_copied result ≡ user_after ready.now (option_copied session.entry) }
 {
     match session {
@@ -40,7 +40,7 @@ fn user_for<'r>(ready: &'r Ready, session: Option<&Session>) -> Option<&'r User>
 
 /// Returns the verdict of the policy on a subscription, if its session stays.
 fn verdict_on(
-    ready: &Ready,
+    ready: &CompiledPolicy,
     sessions: &Sessions,
     subscription: &SharedSubscription,
 ) -> Option<Verdict>
@@ -79,7 +79,7 @@ fn removed_by(
 fn add_if_lost(
     alloc: Global,
     lost: &mut Lost,
-    ready: &Ready,
+    ready: &CompiledPolicy,
     sessions: &Sessions,
     same: &[bool],
     subscription: &SharedSubscription,
@@ -111,14 +111,14 @@ fn add_if_lost(
 }
 
 /// Tells the prover that the verdict of any policy on a subscription has its reason. It does nothing when it runs.
-fn has_reason(subscription: &SharedSubscription)
+fn prove_reason(subscription: &SharedSubscription)
     ensures { (doc : PolicyDoc) (zs : List Session) → IsReasonedVerdict doc zs subscription.now }
 {
     each_has_reason(subscription.subject().get());
 }
 
 /// Tells the prover that a policy that is ready is valid, and has each account once. It does nothing when it runs.
-pub(crate) fn is_valid(ready: &Ready)
+pub(crate) fn prove_valid(ready: &CompiledPolicy)
     ensures valid { IsValidPolicy ready.now }
     ensures names { IsByName ready.now.accounts }
 {
@@ -130,7 +130,7 @@ pub(crate) fn is_valid(ready: &Ready)
 #[tactic(auto, using(world_subscriptions::proofs::groups::Lists::filter_map_first))]
 pub(crate) fn lost_by(
     alloc: Global,
-    ready: &Ready,
+    ready: &CompiledPolicy,
     sessions: &Sessions,
     subscriptions: &Subscriptions,
     same: &[bool],
@@ -146,7 +146,7 @@ pub(crate) fn lost_by(
         ids: Vec::new(alloc),
     };
     for subscription in subscriptions.values() {
-        has_reason(subscription);
+        prove_reason(subscription);
         add_if_lost(alloc, &mut lost, ready, sessions, same, subscription)?;
     }
     Ok(lost)
@@ -157,6 +157,6 @@ pub(crate) fn remove_lost(subscriptions: &mut Subscriptions, ids: &[u64])
     ensures { (doc : PolicyDoc) (zs : List Session) → ids.now ≡ filter_map (lost_id doc zs) subscriptions.old
         → subscriptions.new ≡ filter (stands_on doc zs) subscriptions.old }
 {
-    subscriptions.use_invariant();
+    subscriptions.prove_invariant();
     subscriptions.remove_each(ids);
 }

@@ -6,7 +6,7 @@ use crate::reload::is_valid;
 use base::{Copying, Items, NoMemory, Shared};
 use events::{Answer, Command, Entry, Event, HubRefusal, Outcome, PublishRefusal};
 use policy_doc::Policy;
-use policy_ready::Ready;
+use policy_ready::CompiledPolicy;
 use service_routes::Routes;
 use std::alloc::Global;
 use std::hash::RandomState;
@@ -22,7 +22,7 @@ use world_subscriptions::Subscriptions;
 pub struct World {
     pub(crate) alloc: Global,
     pub(crate) keys: RandomState,
-    pub(crate) ready: Ready,
+    pub(crate) ready: CompiledPolicy,
     pub(crate) capacity: usize,
     pub(crate) epoch: u128,
     pub(crate) moment: u64,
@@ -84,17 +84,17 @@ impl World {
     /// can't know.
     pub fn new(
         alloc: Global,
-        ready: Ready,
+        ready: CompiledPolicy,
         outbox: usize,
         keys: RandomState,
-    ) -> Result<World, (Ready, NoMemory)>
+    ) -> Result<World, (CompiledPolicy, NoMemory)>
         requires low { 1 ≤ outbox }
         requires high { outbox ≤ 65536 }
         ensures ok { IfOk result (λ world. world ≡ opening_world ready outbox) }
         ensures names { IfOk result (λ _. IsByName ready.accounts) }
         ensures err { IfErr result (λ refused. refused.0 ≡ ready) }
     {
-        is_valid(&ready);
+        prove_valid(&ready);
         Ok(World {
             alloc,
             keys,
@@ -296,7 +296,7 @@ impl World {
     }
 
     /// Returns the policy in force, made ready.
-    pub fn ready(&self) -> &Ready
+    pub fn ready(&self) -> &CompiledPolicy
         ensures { result.now ≡ self.now.policy }
     {
         &self.ready

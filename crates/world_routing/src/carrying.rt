@@ -80,7 +80,7 @@ fn hand_over(
         None => sessions.hand_over_all(all, now),
         Some(answered) => {
             let subject = answered.message.subject();
-            sessions.count_response(answered.conn, &subject);
+            sessions.spend(answered.conn, &subject);
             sessions.hand_over_all(all, now);
             sessions.end(answered.conn, &subject);
         }

@@ -25,7 +25,7 @@ use base::{Boxed, Items, NoMemory};
 use events::{Addressed, HubRefusal, Item, Message, Met};
 use permissions::deny_marks::DenyMarks;
 use permissions::{By, Verdict};
-use policy_ready::Ready;
+use policy_ready::CompiledPolicy;
 use policy_ready::imports::Rows;
 use receivers::views::ReceiverSearch;
 use service_routes::Routes;
@@ -276,7 +276,7 @@ fn plan_under<'p>(
     subscriptions: &Subscriptions,
     receivers: &mut Receivers,
     routes: &mut Routes,
-    ready: &'p Ready,
+    ready: &'p CompiledPolicy,
     sent_on: SentOn<'p>,
 ) -> Result<Plan, HubRefusal>
     requires marked { AreMarked sessions.old subscriptions.now sent_on.permitted.marks.now }
@@ -288,7 +288,7 @@ fn plan_under<'p>(
 {
     let SentOn { permitted, subject } = sent_on;
     let Permitted { publish, by, marks } = permitted;
-    subscriptions.use_invariant();
+    subscriptions.prove_invariant();
     let (answered, told) = match sessions.find(publish.conn) {
         None => return Err(HubRefusal::NoSession),
         Some(session) => {
@@ -325,7 +325,7 @@ fn plan_own<'p>(
     subscriptions: &mut Subscriptions,
     receivers: &mut Receivers,
     routes: &mut Routes,
-    ready: &'p Ready,
+    ready: &'p CompiledPolicy,
     permitted: Permitted<'p>,
 ) -> Result<Plan, HubRefusal>
     requires cached { IsCurrent (rows_of ready.now) sessions.old subscriptions.old receivers.old.cache }
@@ -335,7 +335,7 @@ fn plan_own<'p>(
     ensures kept { IsKept (rows_of ready.now) sessions.old subscriptions.old routes.old.exporters sessions.new subscriptions.new routes.new.exporters receivers.new.cache }
 {
     let Permitted { publish, by, marks } = permitted;
-    subscriptions.use_invariant();
+    subscriptions.prove_invariant();
     let (answered, told) = match sessions.find(publish.conn) {
         None => return Err(HubRefusal::NoSession),
         Some(session) => (
@@ -397,7 +397,7 @@ fn plan_anew<'p>(
     subscriptions: &mut Subscriptions,
     receivers: &mut Receivers,
     routes: &mut Routes,
-    ready: &'p Ready,
+    ready: &'p CompiledPolicy,
     permitted: Permitted<'p>,
 ) -> Result<Plan, HubRefusal>
     requires cached { IsCurrent (rows_of ready.now) sessions.old subscriptions.old receivers.old.cache }
@@ -450,7 +450,7 @@ fn plan_mapped<'p>(
     subscriptions: &mut Subscriptions,
     receivers: &mut Receivers,
     routes: &mut Routes,
-    ready: &'p Ready,
+    ready: &'p CompiledPolicy,
     permitted: Permitted<'p>,
 ) -> Result<Plan, HubRefusal>
     requires cached { IsCurrent (rows_of ready.now) sessions.old subscriptions.old receivers.old.cache }
@@ -463,7 +463,7 @@ fn plan_mapped<'p>(
         by,
         marks: _,
     } = permitted;
-    subscriptions.use_invariant();
+    subscriptions.prove_invariant();
     let answered = match sessions.find(publish.conn) {
         None => return Err(HubRefusal::NoSession),
         Some(session) => {
@@ -526,7 +526,7 @@ fn plan_uncached<'p>(
     subscriptions: &mut Subscriptions,
     caches: &mut Caches,
     routes: &mut Routes,
-    ready: &'p Ready,
+    ready: &'p CompiledPolicy,
     publish: Publish<'p>,
 ) -> Result<Plan, HubRefusal>
     requires { AreCurrent ready.now sessions.old subscriptions.old caches.old }
@@ -536,7 +536,7 @@ fn plan_uncached<'p>(
     ensures verdicts { AreRemembered ready.now caches.new.verdicts }
     ensures marked { caches.new.marks ≡ caches.old.marks }
 {
-    subscriptions.use_invariant();
+    subscriptions.prove_invariant();
     let message = publish.message;
     let subject = message.subject();
     let receivers = &mut caches.receivers;
@@ -584,7 +584,7 @@ pub fn plan_publish<'p>(
     subscriptions: &mut Subscriptions,
     caches: &mut Caches,
     routes: &mut Routes,
-    ready: &'p Ready,
+    ready: &'p CompiledPolicy,
     publish: Publish<'p>,
 ) -> Result<Plan, HubRefusal>
     requires { AreCurrent ready.now sessions.old subscriptions.old caches.old }
@@ -597,7 +597,7 @@ pub fn plan_publish<'p>(
     ensures marked { caches.new.marks ≡ caches.old.marks }
     ensures cached { IsCurrent (rows_of ready.now) sessions.new subscriptions.new caches.new.receivers.cache }
 {
-    subscriptions.use_invariant();
+    subscriptions.prove_invariant();
     let receivers = &mut caches.receivers;
     match receivers.address_alone(publish.conn, publish.message, publish.word)? {
         Some(by) => plan_alone(sessions, receivers, publish.message, by),

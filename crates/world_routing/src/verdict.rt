@@ -7,7 +7,7 @@ ghost use Rattle.world_routing.specs.Remembered.{AreRemembered};
 
 use permissions::verdict_cache::Verdicts;
 use permissions::{By, Verdict};
-use policy_ready::Ready;
+use policy_ready::CompiledPolicy;
 use subjects::SubjectRef;
 use world_sessions::Session;
 
@@ -16,7 +16,7 @@ use world_sessions::Session;
 #[inline(always)]
 pub(crate) fn on_publish(
     verdicts: &mut Verdicts,
-    _in_force: &Ready,
+    _in_force: &CompiledPolicy,
     session: &Session,
     subject: &SubjectRef<'_>,
     now: u64,

@@ -5,12 +5,12 @@ ghost use Rattle.world_sessions.specs.Renewal.{user_again_of, stays, goes, conne
 
 use crate::Session;
 use base::{Copying, NoMemory};
-use policy_ready::{Ready, User};
+use policy_ready::{CompiledPolicy, User};
 use std::alloc::Global;
 use std::collections::VecDeque;
 
 /// Returns whether the policy has the session's user again.
-fn is_staying(ready: &Ready, session: &Session) -> bool
+fn is_staying(ready: &CompiledPolicy, session: &Session) -> bool
     ensures { result ≡ stays ready.now session.now }
 {
     ready.user_again(&session.user).is_some()
@@ -20,7 +20,7 @@ fn is_staying(ready: &Ready, session: &Session) -> bool
 fn add_user(
     alloc: Global,
     users: &mut VecDeque<User>,
-    ready: &Ready,
+    ready: &CompiledPolicy,
     session: &Session,
 ) -> Result<(), NoMemory>
     ensures { OnOk result (users.new.items ≡ users.old.items ++ filter_map (user_again_of ready.now) (session.now ∷ [])) }
@@ -38,7 +38,7 @@ fn add_user(
 #[tactic(auto, using(crate::proofs::Lists::filter_map_more))]
 pub(crate) fn users_again(
     alloc: Global,
-    ready: &Ready,
+    ready: &CompiledPolicy,
     list: &[Session],
 ) -> Result<VecDeque<User>, NoMemory>
     ensures { IfOk result (λ users. users.items ≡ filter_map (user_again_of ready.now) list.now) }
@@ -51,7 +51,11 @@ pub(crate) fn users_again(
 }
 
 /// Adds the connection of a session, if it goes.
-fn add_closed(gone: &mut Vec<u64>, ready: &Ready, session: &Session) -> Result<(), NoMemory>
+fn add_closed(
+    gone: &mut Vec<u64>,
+    ready: &CompiledPolicy,
+    session: &Session,
+) -> Result<(), NoMemory>
     ensures { OnOk result (gone.new.items ≡ gone.old.items ++ map connection_of (filter (goes ready.now) (session.now ∷ []))) }
 {
     if !is_staying(ready, session) {
@@ -62,7 +66,11 @@ fn add_closed(gone: &mut Vec<u64>, ready: &Ready, session: &Session) -> Result<(
 
 /// Returns the connections of the sessions that go, session by session.
 #[tactic(auto, using(crate::proofs::Lists::map_filter_more))]
-fn closed_in_turn(alloc: Global, ready: &Ready, list: &[Session]) -> Result<Vec<u64>, NoMemory>
+fn closed_in_turn(
+    alloc: Global,
+    ready: &CompiledPolicy,
+    list: &[Session],
+) -> Result<Vec<u64>, NoMemory>
     ensures { IfOk result (λ gone. gone.items ≡ map connection_of (filter (goes ready.now) list.now)) }
 {
     let mut gone = Vec::new(alloc);
@@ -73,7 +81,11 @@ fn closed_in_turn(alloc: Global, ready: &Ready, list: &[Session]) -> Result<Vec<
 }
 
 /// Returns the connections of the sessions that go, ascending.
-pub(crate) fn closed(alloc: Global, ready: &Ready, list: &[Session]) -> Result<Vec<u64>, NoMemory>
+pub(crate) fn closed(
+    alloc: Global,
+    ready: &CompiledPolicy,
+    list: &[Session],
+) -> Result<Vec<u64>, NoMemory>
     ensures { IfOk result (λ gone. gone.items ≡ closed_conns ready.now list.now) }
 {
     let mut gone = closed_in_turn(alloc, ready, list)?;
@@ -82,7 +94,7 @@ pub(crate) fn closed(alloc: Global, ready: &Ready, list: &[Session]) -> Result<V
 }
 
 /// Removes the sessions that go, with their outboxes.
-fn keep_staying(ready: &Ready, list: &mut Vec<Session>)
+fn keep_staying(ready: &CompiledPolicy, list: &mut Vec<Session>)
     ensures { list.new.items ≡ filter (stays ready.now) list.old.items }
 {
     list.retain(|session| is_staying(ready, session));
@@ -113,7 +125,12 @@ fn give_users(list: &mut [Session], mut users: VecDeque<User>, now: u64)
 }
 
 /// Removes the sessions that go, and gives the others these users, in order. Grants are judged anew as of `now`, in milliseconds.
-pub(crate) fn renew_list(ready: &Ready, list: &mut Vec<Session>, users: VecDeque<User>, now: u64)
+pub(crate) fn renew_list(
+    ready: &CompiledPolicy,
+    list: &mut Vec<Session>,
+    users: VecDeque<User>,
+    now: u64,
+)
     ensures { list.new.items ≡ with_users now (filter (stays ready.now) list.old.items) users.items }
 {
     keep_staying(ready, list);

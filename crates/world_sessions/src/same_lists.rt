@@ -5,7 +5,7 @@ ghost use Rattle.world_sessions.specs.Renewal.{HasSameLists, HaveOneUser, IsOfEa
 
 use crate::Session;
 use base::NoMemory;
-use policy_ready::{Ready, User};
+use policy_ready::{CompiledPolicy, User};
 use std::alloc::Global;
 use std::mem;
 
@@ -15,7 +15,7 @@ const GUESSES: usize = 1_024;
 /// Returns for each session whether the policy has its user again with the subscribe lists that it has now.
 pub(crate) fn same_lists(
     alloc: Global,
-    ready: &Ready,
+    ready: &CompiledPolicy,
     list: &[Session],
 ) -> Result<Vec<bool>, NoMemory>
     requires { AllPairs HaveOneUser list.now }
@@ -48,7 +48,7 @@ fn guess_again(guesses: &mut Vec<usize>, user: &User, place: usize) -> usize {
 
 /// Returns the answer for a session: that of an earlier one of its user, where one stands at the guessed place.
 fn answer_for(
-    ready: &Ready,
+    ready: &CompiledPolicy,
     list: &[Session],
     same: &[bool],
     place: usize,
@@ -74,7 +74,7 @@ fn answer_for(
 }
 
 /// Returns whether the policy has the session's user again, with the subscribe lists that it has now.
-fn has_same_lists(ready: &Ready, session: &Session) -> bool
+fn has_same_lists(ready: &CompiledPolicy, session: &Session) -> bool
     ensures { Decides result (HasSameLists ready.now session.now) }
 {
     match ready.user_again(&session.user) {

@@ -3,7 +3,7 @@ use crate::same_lists::same_lists;
 use crate::{Session, renewal};
 use base::NoMemory;
 use events::{Addressed, Delivery, Met};
-use policy_ready::{Ready, User};
+use policy_ready::{CompiledPolicy, User};
 use std::alloc::Global;
 use std::collections::VecDeque;
 use std::hash::RandomState;
@@ -73,10 +73,10 @@ impl Sessions {
     }
 
     /// Tells the prover what always holds: no two sessions have one connection. It does nothing when it runs.
-    pub fn use_invariant(&self)
+    pub fn prove_invariant(&self)
         ensures { AllPairs IsApart self.now }
     {
-        self.conns.use_invariant();
+        self.conns.prove_invariant();
     }
 
     /// Returns the place of the session of a connection.
@@ -205,12 +205,12 @@ impl Sessions {
     }
 
     /// Counts a response on the grant that a connection's session has for a subject, if it has one.
-    pub fn count_response(&mut self, conn: u64, subject: &SubjectRef<'_>)
+    pub fn spend(&mut self, conn: u64, subject: &SubjectRef<'_>)
         ensures { self.new ≡ with_session (responding subject.now) conn self.old }
     {
         match self.place_of(conn) {
             None => {}
-            Some(place) => self.list[place].count_response(subject),
+            Some(place) => self.list[place].spend(subject),
         }
     }
 
@@ -250,7 +250,7 @@ impl Sessions {
 
     /// Returns the users of the sessions that stay under a policy, session by session, as the policy has them.
     /// `NoMemory` where memory could not be had.
-    pub fn users_again(&self, ready: &Ready) -> Result<VecDeque<User>, NoMemory>
+    pub fn users_again(&self, ready: &CompiledPolicy) -> Result<VecDeque<User>, NoMemory>
         ensures { IfOk result (λ users. users.items ≡ filter_map (user_again_of ready.now) self.now) }
     {
         let users = renewal::users_again(self.alloc, ready, self.list.as_slice())?;
@@ -259,7 +259,7 @@ impl Sessions {
 
     /// Returns the connections of the sessions that don't stay under a policy, ascending. `NoMemory` where memory could
     /// not be had.
-    pub fn closed(&self, ready: &Ready) -> Result<Vec<u64>, NoMemory>
+    pub fn closed(&self, ready: &CompiledPolicy) -> Result<Vec<u64>, NoMemory>
         ensures { IfOk result (λ gone. gone.items ≡ closed_conns ready.now self.now) }
     {
         let gone = renewal::closed(self.alloc, ready, self.list.as_slice())?;
@@ -269,7 +269,7 @@ impl Sessions {
     /// Returns for each session whether a policy has its user again with the subscribe lists that it has now.
     /// `NoMemory` where memory could not be had. Each user's lists are compared once, so sessions of one name must act
     /// for one user.
-    pub fn same_lists(&self, ready: &Ready) -> Result<Vec<bool>, NoMemory>
+    pub fn same_lists(&self, ready: &CompiledPolicy) -> Result<Vec<bool>, NoMemory>
         requires { AllPairs HaveOneUser self.now }
         ensures { IfOk result (λ same. AreSameLists ready.now self.now same.items) }
     {
@@ -294,11 +294,11 @@ impl Sessions {
     /// Removes the sessions that don't stay under a policy, with their outboxes, and gives each of the others its
     /// user as the policy has it. Its grants stay that are live at the moment under the terms before and under that
     /// user's. The users are those of `users_again`. It takes no memory.
-    pub fn renew(&mut self, ready: &Ready, users: VecDeque<User>, now: u64)
+    pub fn renew(&mut self, ready: &CompiledPolicy, users: VecDeque<User>, now: u64)
         requires { users.items ≡ filter_map (user_again_of ready.now) self.old }
         ensures { self.new ≡ remaining now ready.now self.old }
     {
-        self.conns.use_invariant();
+        self.conns.prove_invariant();
         renewal::renew_list(ready, &mut self.list, users, now);
         self.conns.note_all(self.list.as_slice());
     }

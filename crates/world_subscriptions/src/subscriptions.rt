@@ -87,7 +87,7 @@ impl Subscriptions {
     }
 
     /// Tells the prover what holds of all: the ids rise, no two have one connection and sid, and none has ended.
-    pub fn use_invariant(&self)
+    pub fn prove_invariant(&self)
         ensures ids { AllPairs (λ (s t : Subscription). s.id < t.id) self.now }
         ensures sids { AllPairs (λ (s t : Subscription). has_same_sid s t ≡ false) self.now }
         ensures limits { All (λ (s : Subscription). has_ended s ≡ false) self.now }
@@ -199,7 +199,7 @@ impl Subscriptions {
     pub fn limit(&mut self, conn: u64, sid: &Sid, most: Option<u64>)
         ensures { self.new ≡ unended (map (limited conn sid.now most) self.old) }
     {
-        self.use_invariant();
+        self.prove_invariant();
         match self.id_of(conn, sid) {
             None => {}
             Some(id) => self.limit_one(id, most),
@@ -266,7 +266,7 @@ impl Subscriptions {
         ensures counted { (m : Message) (p : Subscription → Bool) → all.now ≡ map (addressed_to m) (filter p self.old)
             → TellEach all.now items.now → self.new ≡ unended (map (counted items.now) self.old) }
     {
-        self.use_invariant();
+        self.prove_invariant();
         self.count_each(all, items);
     }
 

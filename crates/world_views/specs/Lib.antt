@@ -1,4 +1,5 @@
 pub mod Requests
 pub mod Changing
 pub mod Viewing
+pub mod Occasions
 pub mod addressing

@@ -8,11 +8,11 @@ ghost use Rattle.service_routes.specs.Routes.{Name, pruned, spent};
 ghost use Rattle.world_sessions.specs.deliveries.Sessions.{session_of};
 ghost use Rattle.receivers.specs.views.Marked.{AreMarked};
 ghost use Rattle.receivers.specs.cache.Cached.{IsAllowed, IsCurrent};
-ghost use Rattle.world_views.specs.addressing.Standing.{addressed_behind_in};
-ghost use Rattle.receivers.specs.views.CachedViews.{under_subject};
 ghost use Rattle.world_views.specs.Changing.{changed_by, opened_each, AreNoted, IsNotedAt};
-ghost use Rattle.world_views.specs.Requests.{response_by, responses_on};
-ghost use Rattle.world_views.specs.Viewing.{addressed_after, addressing, others_in, others_with, publication, reports_after, reports_in, routes_after, seen_with, tables_at, AreAddressed, AreNotedIn};
+ghost use Rattle.world_views.specs.Requests.{response_by};
+ghost use Rattle.world_views.specs.Occasions.{crossings_under, in_each, published, published_under, reports_in_each, requesters_on, seen_in};
+ghost use Rattle.world_views.specs.Occasions.{spent_on, tables_under};
+ghost use Rattle.world_views.specs.Viewing.{addressing, reports_in, routes_after, seen_with, AreAddressed, AreNotedIn};
 
 use crate::addressing::{Receivers, Sending};
 use crate::changing::RouteChange;
@@ -21,7 +21,7 @@ use base::{Alike, Boxed, Copying, NoMemory};
 use bytes::Bytes;
 use events::Said;
 use permissions::deny_marks::DenyMarks;
-use policy_ready::Ready;
+use policy_ready::CompiledPolicy;
 use policy_ready::imports::Rows;
 use service_routes::{Route, Routes};
 use std::alloc::Global;
@@ -32,7 +32,7 @@ use world_subscriptions::Subscriptions;
 /// A message that a session publishes at a moment, under a policy.
 #[derive(Clone, Copy)]
 pub struct Publishing<'a> {
-    pub ready: &'a Ready,
+    pub ready: &'a CompiledPolicy,
     pub sending: Sending<'a>,
     pub now: u64,
     /// The deny marks of all that stand.
@@ -63,8 +63,10 @@ fn nothing_found(alloc: Global) -> Found
 /// Returns what is told, if there is anything.
 fn if_any(alloc: Global, found: Found) -> Result<Option<Boxed<Told>>, NoMemory>
     ensures reports { IfOk result (λ told. reports_in told ≡ found.reports.items) }
-    ensures opened { IfOk result (λ told. (all : List (Name × Exporter)) → routes_after told all ≡ opened_each found.openings.items all) }
-    ensures noted { IfOk result (λ told. (now : ℕ) → All (IsNotedAt now) found.openings.items → AreNotedIn now told) }
+    ensures opened { IfOk result (λ told. (all : List (Name × Exporter)) → routes_after told all
+        ≡ opened_each found.openings.items all) }
+    ensures noted { IfOk result (λ told. (now : ℕ) → All (IsNotedAt now) found.openings.items
+        → AreNotedIn now told) }
 {
     let Found { reports, openings } = found;
     if reports.is_empty() && openings.is_empty() {
@@ -89,10 +91,16 @@ fn address_across(
     subject: &SubjectRef<'_>,
 ) -> Result<Option<Boxed<Told>>, NoMemory>
     requires marked { AreMarked occasion.sessions.now occasion.subscriptions.now occasion.marks.now }
-    ensures all { OnOk result (receivers.new.deliveries.items ≡ (addressed_after (tables_at occasion.entry.ready.now occasion.entry.now occasion.entry.sessions.now occasion.entry.subscriptions.now routes.old.exporters) (publication occasion.entry.sending.publisher.now occasion.entry.sending.message.now occasion.entry.sending.word) (addressing receivers.old.deliveries.items []) (others_in (rows_of occasion.entry.ready.now) occasion.entry.sending.publisher.now.user.account subject.now)).deliveries) }
-    ensures reports { IfOk result (λ told. reports_in told ≡ reports_after (tables_at occasion.entry.ready.now occasion.entry.now occasion.entry.sessions.now occasion.entry.subscriptions.now routes.old.exporters) (publication occasion.entry.sending.publisher.now occasion.entry.sending.message.now occasion.entry.sending.word) (addressing receivers.old.deliveries.items []) (others_in (rows_of occasion.entry.ready.now) occasion.entry.sending.publisher.now.user.account subject.now)) }
+    ensures all { OnOk result (receivers.new.deliveries.items
+        ≡ (in_each occasion.entry routes.old.exporters (addressing receivers.old.deliveries.items [])
+        (crossings_under occasion.entry subject.now)).deliveries) }
+    ensures reports { IfOk result (λ told. reports_in told
+        ≡ reports_in_each occasion.entry routes.old.exporters (addressing receivers.old.deliveries.items [])
+        (crossings_under occasion.entry subject.now)) }
     ensures opened { IfOk result (λ told. routes_after told (pruned occasion.entry.now routes.old.exporters)
-        ≡ opened_each (addressed_after (tables_at occasion.entry.ready.now occasion.entry.now occasion.entry.sessions.now occasion.entry.subscriptions.now routes.old.exporters) (publication occasion.entry.sending.publisher.now occasion.entry.sending.message.now occasion.entry.sending.word) (addressing receivers.old.deliveries.items []) (others_in (rows_of occasion.entry.ready.now) occasion.entry.sending.publisher.now.user.account subject.now)).openings (pruned occasion.entry.now routes.old.exporters)) }
+        ≡ opened_each (in_each occasion.entry routes.old.exporters (addressing receivers.old.deliveries.items [])
+        (crossings_under occasion.entry subject.now)).openings
+        (pruned occasion.entry.now routes.old.exporters)) }
     ensures noted { IfOk result (λ told. AreNotedIn occasion.entry.now told) }
     ensures cached { receivers.new.cache ≡ receivers.old.cache }
     ensures routes { routes.new.exporters ≡ routes.old.exporters }
@@ -118,10 +126,12 @@ fn address_on_reply(
     routes: &Routes,
 ) -> Result<Option<Boxed<Told>>, NoMemory>
     requires marked { AreMarked occasion.sessions.now occasion.subscriptions.now occasion.marks.now }
-    ensures all { OnOk result (receivers.new.deliveries.items ≡ (addressed_after (tables_at occasion.entry.ready.now occasion.entry.now occasion.entry.sessions.now occasion.entry.subscriptions.now routes.now.exporters) (publication occasion.entry.sending.publisher.now occasion.entry.sending.message.now occasion.entry.sending.word) (addressing receivers.old.deliveries.items []) (others_with [] (responses_on (pruned occasion.entry.now routes.now.exporters) occasion.entry.sending.publisher.now.user.account occasion.entry.sending.message.now.subject) occasion.entry.sending.publisher.now.user.account occasion.entry.sending.message.now.subject)).deliveries) }
+    ensures all { OnOk result (receivers.new.deliveries.items
+        ≡ (in_each occasion.entry routes.now.exporters (addressing receivers.old.deliveries.items [])
+        (requesters_on occasion.entry routes.now.exporters occasion.entry.sending.message.now.subject)).deliveries) }
     ensures reports { IfOk result (λ told. reports_in told ≡ []) }
     ensures spent { IfOk result (λ told. routes_after told (pruned occasion.entry.now routes.now.exporters)
-        ≡ spent occasion.entry.sending.publisher.now.user.account occasion.entry.sending.message.now.subject (pruned occasion.entry.now routes.now.exporters)) }
+        ≡ spent_on occasion.entry routes.now.exporters occasion.entry.sending.message.now.subject) }
     ensures noted { IfOk result (λ told. AreNotedIn occasion.entry.now told) }
     ensures cached { receivers.new.cache ≡ receivers.old.cache }
 {
@@ -145,12 +155,15 @@ fn address_answer(
     answered: RouteChange,
 ) -> Result<Option<Boxed<Told>>, NoMemory>
     requires marked { AreMarked occasion.sessions.now occasion.subscriptions.now occasion.marks.now }
-    requires ends { (all : List (Name × Exporter)) → changed_by answered all ≡ spent occasion.sending.publisher.now.user.account subject.now all }
+    requires ends { (all : List (Name × Exporter)) → changed_by answered all
+        ≡ spent occasion.sending.publisher.now.user.account subject.now all }
     requires noted { AreNoted occasion.now answered }
-    ensures all { OnOk result (receivers.new.deliveries.items ≡ (addressed_after (tables_at occasion.entry.ready.now occasion.entry.now occasion.entry.sessions.now occasion.entry.subscriptions.now routes.now.exporters) (publication occasion.entry.sending.publisher.now occasion.entry.sending.message.now occasion.entry.sending.word) (addressing receivers.old.deliveries.items []) (others_with [] (responses_on (pruned occasion.entry.now routes.now.exporters) occasion.entry.sending.publisher.now.user.account subject.now) occasion.entry.sending.publisher.now.user.account subject.now)).deliveries) }
+    ensures all { OnOk result (receivers.new.deliveries.items
+        ≡ (in_each occasion.entry routes.now.exporters (addressing receivers.old.deliveries.items [])
+        (requesters_on occasion.entry routes.now.exporters subject.now)).deliveries) }
     ensures reports { IfOk result (λ told. reports_in told ≡ []) }
     ensures spent { IfOk result (λ told. routes_after told (pruned occasion.entry.now routes.now.exporters)
-        ≡ spent occasion.entry.sending.publisher.now.user.account subject.now (pruned occasion.entry.now routes.now.exporters)) }
+        ≡ spent_on occasion.entry routes.now.exporters subject.now) }
     ensures noted { IfOk result (λ told. AreNotedIn occasion.entry.now told) }
     ensures cached { receivers.new.cache ≡ receivers.old.cache }
 {
@@ -176,10 +189,12 @@ fn address_unless_own(
     subject: &SubjectRef<'_>,
 ) -> Result<(), NoMemory>
     requires marked { AreMarked occasion.sessions.now occasion.subscriptions.now occasion.marks.now }
-    ensures all { OnOk result (receivers.new.deliveries.items ≡ (if is_same (At occasion.entry.sending.publisher.now.user.account subject.now Own) (response_by route.now)
+    ensures all { OnOk result (receivers.new.deliveries.items
+        ≡ (if is_same (At occasion.entry.sending.publisher.now.user.account subject.now Own) (response_by route.now)
         then receivers.old.deliveries.items
-        else receivers.old.deliveries.items ++ addressed_behind_in occasion.entry.sessions.now occasion.entry.subscriptions.now receivers.old.deliveries.items
-        occasion.entry.sending.publisher.now (seen_with route.now.reply None occasion.entry.sending.message.now) occasion.entry.sending.word route.now.row.importer)) }
+        else receivers.old.deliveries.items
+        ++ seen_in occasion.entry receivers.old.deliveries.items
+        (seen_with route.now.reply None occasion.entry.sending.message.now) route.now.row.importer)) }
     ensures cached { receivers.new.cache ≡ receivers.old.cache }
 {
     let exporter = &occasion.sending.publisher.user.account;
@@ -251,12 +266,15 @@ pub fn address_all<'p>(
     routes: &mut Routes,
     publishing: Publishing<'p>,
 ) -> Result<Option<Boxed<Told>>, NoMemory>
-    requires publisher { session_of sessions.now publishing.sending.publisher.now.conn ≡ Some publishing.sending.publisher.now }
+    requires publisher { session_of sessions.now publishing.sending.publisher.now.conn
+        ≡ Some publishing.sending.publisher.now }
     requires cached { IsCurrent (rows_of publishing.ready.now) sessions.now subscriptions.old receivers.old.cache }
-    requires allowed { IfSome publishing.sending.allowed (IsAllowed publishing.sending.publisher.now.user publishing.sending.message.now.subject) }
+    requires allowed { IfSome publishing.sending.allowed
+        (IsAllowed publishing.sending.publisher.now.user publishing.sending.message.now.subject) }
     requires marked { AreMarked sessions.now subscriptions.old publishing.marks.now }
-    ensures addressed { IfOk result (λ told. AreAddressed (tables_at publishing.entry.ready.now publishing.entry.now sessions.now subscriptions.old routes.old.exporters)
-        (publication publishing.entry.sending.publisher.now publishing.entry.sending.message.now publishing.entry.sending.word) receivers.new.deliveries.items told) }
+    ensures addressed { IfOk result (λ told. AreAddressed
+        (tables_under publishing.entry sessions.now subscriptions.old routes.old.exporters)
+        (published publishing.entry.sending) receivers.new.deliveries.items told) }
     ensures same { subscriptions.new ≡ subscriptions.old }
     ensures cached { IsCurrent (rows_of publishing.entry.ready.now) sessions.now subscriptions.old receivers.new.cache }
     ensures routes { routes.new.exporters ≡ routes.old.exporters }
@@ -267,7 +285,7 @@ pub fn address_all<'p>(
         now,
         marks,
     } = publishing;
-    subscriptions.use_invariant();
+    subscriptions.prove_invariant();
     receivers.address(sessions, subscriptions, ready.rows(), marks, sending)?;
     if is_own_alone(ready.rows(), routes) {
         return Ok(None);
@@ -306,8 +324,9 @@ pub fn address_under<'p>(
     subject: &Subject,
 ) -> Result<Option<Boxed<Told>>, NoMemory>
     requires marked { AreMarked sessions.now subscriptions.now publishing.marks.now }
-    ensures addressed { IfOk result (λ told. AreAddressed (tables_at publishing.entry.ready.now publishing.entry.now sessions.now subscriptions.now routes.old.exporters)
-        (publication publishing.entry.sending.publisher.now (under_subject subject.now publishing.entry.sending.message.now) publishing.entry.sending.word) receivers.new.deliveries.items told) }
+    ensures addressed { IfOk result (λ told. AreAddressed
+        (tables_under publishing.entry sessions.now subscriptions.now routes.old.exporters)
+        (published_under subject.now publishing.entry.sending) receivers.new.deliveries.items told) }
     ensures cached { receivers.new.cache ≡ receivers.old.cache }
     ensures routes { routes.new.exporters ≡ routes.old.exporters }
 {
@@ -349,10 +368,12 @@ fn address_answer_under(
     subject: &Subject,
 ) -> Result<Option<Boxed<Told>>, NoMemory>
     requires marked { AreMarked occasion.sessions.now occasion.subscriptions.now occasion.marks.now }
-    ensures all { OnOk result (receivers.new.deliveries.items ≡ (addressed_after (tables_at occasion.entry.ready.now occasion.entry.now occasion.entry.sessions.now occasion.entry.subscriptions.now routes.now.exporters) (publication occasion.entry.sending.publisher.now occasion.entry.sending.message.now occasion.entry.sending.word) (addressing receivers.old.deliveries.items []) (others_with [] (responses_on (pruned occasion.entry.now routes.now.exporters) occasion.entry.sending.publisher.now.user.account subject.now) occasion.entry.sending.publisher.now.user.account subject.now)).deliveries) }
+    ensures all { OnOk result (receivers.new.deliveries.items
+        ≡ (in_each occasion.entry routes.now.exporters (addressing receivers.old.deliveries.items [])
+        (requesters_on occasion.entry routes.now.exporters subject.now)).deliveries) }
     ensures reports { IfOk result (λ told. reports_in told ≡ []) }
     ensures spent { IfOk result (λ told. routes_after told (pruned occasion.entry.now routes.now.exporters)
-        ≡ spent occasion.entry.sending.publisher.now.user.account subject.now (pruned occasion.entry.now routes.now.exporters)) }
+        ≡ spent_on occasion.entry routes.now.exporters subject.now) }
     ensures noted { IfOk result (λ told. AreNotedIn occasion.entry.now told) }
     ensures cached { receivers.new.cache ≡ receivers.old.cache }
 {

@@ -1,10 +1,10 @@
 //! A request that is seen across an import row of a service, and wants a response.
-ghost use Rattle.std.specs.Prelude.{◌≡◌, ◌++◌, ◌∷◌, [], All, IfOk, OnOk, Some, length, if◌then◌else◌};
+ghost use Rattle.std.specs.Prelude.{◌≡◌, ◌++◌, ◌∷◌, [], All, IfOk, OnOk, length, if◌then◌else◌};
 ghost use Rattle.service_exporter.specs.service_subjects.Names.{route_subject};
 ghost use Rattle.receivers.specs.views.Marked.{AreMarked};
-ghost use Rattle.world_views.specs.addressing.Standing.{addressed_behind_in, is_for_nobody};
 ghost use Rattle.world_views.specs.Changing.{IsNotedAt};
-ghost use Rattle.world_views.specs.Viewing.{addressing, opening_for, publication, report, reports_by, request_in, seen_with, tables_at, with_effect};
+ghost use Rattle.world_views.specs.Occasions.{after_request, is_in_vain, opening_of, reports_of_request, seen_on_route, so_far};
+ghost use Rattle.world_views.specs.Viewing.{report};
 ghost use Rattle.world_views.specs.declared.viewing.Cause.TheVariants as cause;
 
 use crate::addressing::{Receivers, Seen};
@@ -42,11 +42,10 @@ pub(crate) fn address_request(
 ) -> Result<(), NoMemory>
     requires marked { AreMarked occasion.sessions.now occasion.subscriptions.now occasion.marks.now }
     requires noted { All (IsNotedAt occasion.now) found.old.openings.items }
-    ensures all { OnOk result (addressing receivers.new.deliveries.items found.new.openings.items
-        ≡ with_effect (tables_at occasion.entry.ready.now occasion.entry.now occasion.entry.sessions.now occasion.entry.subscriptions.now routes.old.exporters) (publication occasion.entry.sending.publisher.now occasion.entry.sending.message.now occasion.entry.sending.word) (addressing receivers.old.deliveries.items found.old.openings.items) (request_in (tables_at occasion.entry.ready.now occasion.entry.now occasion.entry.sessions.now occasion.entry.subscriptions.now routes.old.exporters) (publication occasion.entry.sending.publisher.now occasion.entry.sending.message.now occasion.entry.sending.word) (addressing receivers.old.deliveries.items found.old.openings.items)
-        request.entry.exporter.now request.entry.subject.now request.entry.row.now (Some request.entry.reply.now))) }
-    ensures reports { OnOk result (found.new.reports.items ≡ found.old.reports.items ++ reports_by (addressing receivers.old.deliveries.items found.old.openings.items) (request_in (tables_at occasion.entry.ready.now occasion.entry.now occasion.entry.sessions.now occasion.entry.subscriptions.now routes.old.exporters) (publication occasion.entry.sending.publisher.now occasion.entry.sending.message.now occasion.entry.sending.word) (addressing receivers.old.deliveries.items found.old.openings.items)
-        request.entry.exporter.now request.entry.subject.now request.entry.row.now (Some request.entry.reply.now))) }
+    ensures all { OnOk result (so_far receivers.new found.new
+        ≡ after_request occasion.entry routes.old.exporters (so_far receivers.old found.old) request.entry) }
+    ensures reports { OnOk result (found.new.reports.items ≡ found.old.reports.items
+        ++ reports_of_request occasion.entry routes.old.exporters (so_far receivers.old found.old) request.entry) }
     ensures noted { OnOk result (All (IsNotedAt occasion.entry.now) found.new.openings.items) }
     ensures cached { receivers.new.cache ≡ receivers.old.cache }
     ensures routes { routes.new.exporters ≡ routes.old.exporters }
@@ -78,11 +77,15 @@ fn address_on_route(
     found: &mut Found,
 ) -> Result<(), NoMemory>
     requires marked { AreMarked occasion.sessions.now occasion.subscriptions.now occasion.marks.now }
-    ensures all { OnOk result (receivers.new.deliveries.items ≡ (if is_for_nobody occasion.entry.sessions.now occasion.entry.subscriptions.now receivers.old.deliveries.items occasion.entry.sending.publisher.now request.entry.exporter.now request.entry.subject.now then receivers.old.deliveries.items
-        else receivers.old.deliveries.items ++ addressed_behind_in occasion.entry.sessions.now occasion.entry.subscriptions.now receivers.old.deliveries.items
-        occasion.entry.sending.publisher.now (seen_with request.entry.subject.now (Some (route_subject occasion.entry.sending.word number)) occasion.entry.sending.message.now) occasion.entry.sending.word request.entry.exporter.now)) }
-    ensures openings { OnOk result (found.new.openings.items ≡ (if is_for_nobody occasion.entry.sessions.now occasion.entry.subscriptions.now receivers.old.deliveries.items occasion.entry.sending.publisher.now request.entry.exporter.now request.entry.subject.now then found.old.openings.items
-        else found.old.openings.items ++ opening_for request.entry.exporter.now occasion.entry.ready.now request.entry.row.now request.entry.reply.now occasion.entry.sending.word occasion.entry.now ∷ [])) }
+    ensures all { OnOk result (receivers.new.deliveries.items
+        ≡ (if is_in_vain occasion.entry receivers.old.deliveries.items request.entry
+        then receivers.old.deliveries.items
+        else receivers.old.deliveries.items
+        ++ seen_on_route occasion.entry receivers.old.deliveries.items request.entry number)) }
+    ensures openings { OnOk result (found.new.openings.items
+        ≡ (if is_in_vain occasion.entry receivers.old.deliveries.items request.entry
+        then found.old.openings.items
+        else found.old.openings.items ++ opening_of occasion.entry request.entry ∷ [])) }
     ensures reports { found.new.reports ≡ found.old.reports }
     ensures cached { receivers.new.cache ≡ receivers.old.cache }
 {
@@ -107,7 +110,7 @@ fn address_on_route(
 
 /// Returns the route of a request, which is to be opened.
 fn opening(occasion: Occasion<'_>, request: Request<'_>) -> Result<Opening, NoMemory>
-    ensures { IfOk result (λ opening. opening ≡ opening_for request.entry.exporter.now occasion.entry.ready.now request.entry.row.now request.entry.reply.now occasion.entry.sending.word occasion.entry.now) }
+    ensures { IfOk result (λ opening. opening ≡ opening_of occasion.entry request.entry) }
 {
     let row = request.row.get();
     let own = Row {
@@ -140,8 +143,11 @@ fn report_full(
     requires marked { AreMarked occasion.sessions.now occasion.subscriptions.now occasion.marks.now }
     ensures all { OnOk result (receivers.new.deliveries.items ≡ receivers.old.deliveries.items) }
     ensures openings { found.new.openings ≡ found.old.openings }
-    ensures reports { OnOk result (found.new.reports.items ≡ (if is_for_nobody occasion.entry.sessions.now occasion.entry.subscriptions.now receivers.old.deliveries.items occasion.entry.sending.publisher.now request.entry.exporter.now request.entry.subject.now then found.old.reports.items
-        else found.old.reports.items ++ report (length receivers.old.deliveries.items) cause.RouteFull request.entry.row.now ∷ [])) }
+    ensures reports { OnOk result (found.new.reports.items
+        ≡ (if is_in_vain occasion.entry receivers.old.deliveries.items request.entry
+        then found.old.reports.items
+        else found.old.reports.items
+        ++ report (length receivers.old.deliveries.items) cause.RouteFull request.entry.row.now ∷ [])) }
     ensures cached { receivers.new.cache ≡ receivers.old.cache }
 {
     let before = receivers.deliveries().len();

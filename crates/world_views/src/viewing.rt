@@ -2,9 +2,9 @@
 ghost use Rattle.std.specs.Prelude.{◌≡◌, ◌++◌, ◌-◌, None, All, IfOk, OnOk, take, drop};
 ghost use Rattle.events.specs.Sendings.{named};
 ghost use Rattle.receivers.specs.views.Marked.{AreMarked};
-ghost use Rattle.world_views.specs.addressing.Standing.{addressed_behind_in};
 ghost use Rattle.world_views.specs.Changing.{IsNotedAt};
-ghost use Rattle.world_views.specs.Viewing.{addressed_after, addressing, effect_of, item_of, publication, reports_after, reports_by, seen_with, tables_at, with_effect, with_reports};
+ghost use Rattle.world_views.specs.Occasions.{in_each, in_view, reports_in_each, reports_in_view, seen_in, so_far};
+ghost use Rattle.world_views.specs.Viewing.{item_of, with_reports};
 
 use crate::addressing::{Receivers, Seen, Sending};
 use crate::changing::Opening;
@@ -13,7 +13,7 @@ use base::{NoMemory, Shared};
 use bytes::Bytes;
 use events::{Item, Said};
 use permissions::deny_marks::DenyMarks;
-use policy_ready::Ready;
+use policy_ready::CompiledPolicy;
 use policy_ready::imports::{ViewItem, Way};
 use service_routes::{Routes, Row};
 use std::alloc::Global;
@@ -57,7 +57,7 @@ pub(crate) struct Occasion<'a> {
     pub sessions: &'a Sessions,
     pub subscriptions: &'a Subscriptions,
     pub marks: &'a DenyMarks,
-    pub ready: &'a Ready,
+    pub ready: &'a CompiledPolicy,
     pub sending: Sending<'a>,
     pub now: u64,
 }
@@ -73,9 +73,10 @@ fn address_one(
 ) -> Result<(), NoMemory>
     requires marked { AreMarked occasion.sessions.now occasion.subscriptions.now occasion.marks.now }
     requires noted { All (IsNotedAt occasion.now) found.old.openings.items }
-    ensures all { OnOk result (addressing receivers.new.deliveries.items found.new.openings.items
-        ≡ with_effect (tables_at occasion.entry.ready.now occasion.entry.now occasion.entry.sessions.now occasion.entry.subscriptions.now routes.old.exporters) (publication occasion.entry.sending.publisher.now occasion.entry.sending.message.now occasion.entry.sending.word) (addressing receivers.old.deliveries.items found.old.openings.items) (effect_of (tables_at occasion.entry.ready.now occasion.entry.now occasion.entry.sessions.now occasion.entry.subscriptions.now routes.old.exporters) (publication occasion.entry.sending.publisher.now occasion.entry.sending.message.now occasion.entry.sending.word) (addressing receivers.old.deliveries.items found.old.openings.items) view.now)) }
-    ensures reports { OnOk result (found.new.reports.items ≡ found.old.reports.items ++ reports_by (addressing receivers.old.deliveries.items found.old.openings.items) (effect_of (tables_at occasion.entry.ready.now occasion.entry.now occasion.entry.sessions.now occasion.entry.subscriptions.now routes.old.exporters) (publication occasion.entry.sending.publisher.now occasion.entry.sending.message.now occasion.entry.sending.word) (addressing receivers.old.deliveries.items found.old.openings.items) view.now)) }
+    ensures all { OnOk result (so_far receivers.new found.new
+        ≡ in_view occasion.entry routes.old.exporters (so_far receivers.old found.old) view.now) }
+    ensures reports { OnOk result (found.new.reports.items ≡ found.old.reports.items
+        ++ reports_in_view occasion.entry routes.old.exporters (so_far receivers.old found.old) view.now) }
     ensures noted { OnOk result (All (IsNotedAt occasion.entry.now) found.new.openings.items) }
     ensures cached { receivers.new.cache ≡ receivers.old.cache }
     ensures routes { routes.new.exporters ≡ routes.old.exporters }
@@ -134,8 +135,9 @@ pub(crate) fn address_in(
     reply: Said,
 ) -> Result<(), NoMemory>
     requires marked { AreMarked occasion.sessions.now occasion.subscriptions.now occasion.marks.now }
-    ensures all { OnOk result (receivers.new.deliveries.items ≡ receivers.old.deliveries.items ++ addressed_behind_in occasion.entry.sessions.now occasion.entry.subscriptions.now receivers.old.deliveries.items
-        occasion.entry.sending.publisher.now (named (record { subject = subject.now; reply = reply }) occasion.entry.sending.message.now) occasion.entry.sending.word account.now) }
+    ensures all { OnOk result (receivers.new.deliveries.items ≡ receivers.old.deliveries.items
+        ++ seen_in occasion.entry receivers.old.deliveries.items
+        (named (record { subject = subject.now; reply = reply }) occasion.entry.sending.message.now) account.now) }
     ensures cached { receivers.new.cache ≡ receivers.old.cache }
 {
     let seen = Seen {
@@ -164,9 +166,10 @@ pub(crate) fn address_each(
 ) -> Result<(), NoMemory>
     requires marked { AreMarked occasion.sessions.now occasion.subscriptions.now occasion.marks.now }
     requires noted { All (IsNotedAt occasion.now) found.old.openings.items }
-    ensures all { OnOk result (addressing receivers.new.deliveries.items found.new.openings.items
-        ≡ addressed_after (tables_at occasion.entry.ready.now occasion.entry.now occasion.entry.sessions.now occasion.entry.subscriptions.now routes.old.exporters) (publication occasion.entry.sending.publisher.now occasion.entry.sending.message.now occasion.entry.sending.word) (addressing receivers.old.deliveries.items found.old.openings.items) views.now) }
-    ensures reports { OnOk result (found.new.reports.items ≡ found.old.reports.items ++ reports_after (tables_at occasion.entry.ready.now occasion.entry.now occasion.entry.sessions.now occasion.entry.subscriptions.now routes.old.exporters) (publication occasion.entry.sending.publisher.now occasion.entry.sending.message.now occasion.entry.sending.word) (addressing receivers.old.deliveries.items found.old.openings.items) views.now) }
+    ensures all { OnOk result (so_far receivers.new found.new
+        ≡ in_each occasion.entry routes.old.exporters (so_far receivers.old found.old) views.now) }
+    ensures reports { OnOk result (found.new.reports.items ≡ found.old.reports.items
+        ++ reports_in_each occasion.entry routes.old.exporters (so_far receivers.old found.old) views.now) }
     ensures noted { OnOk result (All (IsNotedAt occasion.entry.now) found.new.openings.items) }
     ensures cached { receivers.new.cache ≡ receivers.old.cache }
     ensures routes { routes.new.exporters ≡ routes.old.exporters }

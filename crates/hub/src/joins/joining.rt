@@ -36,10 +36,10 @@ fn known_parts(segments: &[Segment], hub: &Hub)
     ensures numbers { AreNumbered (parts_of segments.now hub.now) }
 {
     for segment in segments {
-        segment.use_invariant();
+        segment.prove_invariant();
         segment.closing().number();
     }
-    hub.use_invariant();
+    hub.prove_invariant();
     hub.number();
 }
 
@@ -180,7 +180,7 @@ fn begins(segments: &[Segment], hub: &Hub, opening: &PlainWorld, at: u128, empty
         → Decides result (Begins (parts_of segments.now hub.now) q) }
 {
     // Tells the prover that the tail is a legal run.
-    hub.use_invariant();
+    hub.prove_invariant();
     let nearest = nearest_below(segments, hub, at);
     for segment in segments {
         if !leads_to(segment, opening, at, empty, nearest) {

@@ -62,7 +62,7 @@ fn row_at(
     ensures holds { IfOk result IsRow }
 {
     let mapping = mapping_of(alloc, import)?;
-    mapping.use_invariant();
+    mapping.prove_invariant();
     let importer = importer.clone()?;
     Ok(ImportRow {
         row: Shared::new(alloc, Row { importer, index })?,

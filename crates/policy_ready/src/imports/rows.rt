@@ -74,7 +74,7 @@ impl Rows {
     }
 
     /// Tells what holds of the rows of every policy. It does nothing when it runs.
-    pub fn use_invariant(&self)
+    pub fn prove_invariant(&self)
         ensures { All IsRow self.now }
     {
         let _ = &self.rows;

@@ -8,7 +8,7 @@ ghost use Rattle.policy_text.specs.declared.reload.fault.ReloadFault.TheVariants
 use crate::account_config::read_policy;
 use crate::reload::{AccountName, ReloadFault};
 use policy_doc::{Policy, PolicyDoc, PolicyFault};
-use policy_ready::Ready;
+use policy_ready::CompiledPolicy;
 use std::alloc::Global;
 
 /// The policy of a text, made ready, or the text's first fault: faults of the text as a document come before those of the
@@ -17,12 +17,12 @@ use std::alloc::Global;
 /// Where memory could not be had, `Config(NoMemory)` comes of reading the text and `Policy` with `NoMemory` of the
 /// rest. `Policy` with `NoMemory` comes of a text without a fault alone.
 #[tactic(auto, using(crate::proofs::reload::Last::none_last))]
-pub fn prepare(alloc: Global, text: &[u8]) -> Result<Ready, ReloadFault>
+pub fn prepare(alloc: Global, text: &[u8]) -> Result<CompiledPolicy, ReloadFault>
     ensures answers { Answers result (prepared text.now) }
     ensures last { IfErr result (IsLast (policy_of text.now)) }
 {
     let policy = read_valid_policy(alloc, text)?;
-    match Ready::of(alloc, policy) {
+    match CompiledPolicy::of(alloc, policy) {
         Ok(ready) => Ok(ready),
         Err((_, _refused)) => Err(no_memory()),
     }

@@ -6,7 +6,7 @@ ghost use Rattle.server.specs.Policies.{IsNext, IsOfText};
 
 use crate::policy_source::{Next, Policies};
 use policy_notes::{Notes, notes_of};
-use policy_ready::Ready;
+use policy_ready::CompiledPolicy;
 use policy_text::reload::{ReloadFault, prepare};
 use server_log::{ServerLog, What};
 use std::alloc::Global;
@@ -17,7 +17,7 @@ use std::time::Clock;
 #[derive(Drop)]
 pub enum NextPolicy {
     /// A policy that may come into force, what is to be known of its text, and how many bytes that has.
-    Ready(Ready, Notes, usize),
+    Ready(CompiledPolicy, Notes, usize),
     /// A policy that is refused, as this line says, and what is to be known of its text. The line ends in LF.
     Refused(Vec<u8>, Notes),
     /// None yet.

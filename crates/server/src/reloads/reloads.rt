@@ -3,7 +3,7 @@ use crate::reloads::installs::Installs;
 use crate::reloads::reading::{NextPolicy, next_policy, tell_refused, tell_warnings};
 use events::{Answer, Command, Event, HubRefusal, Outcome};
 use lines::reload_lines::write_reload;
-use policy_ready::Ready;
+use policy_ready::CompiledPolicy;
 use server_log::{LogLevel, What};
 use server_port::gates::{Gate, Point};
 use server_port::{Access, ServerPort};
@@ -91,7 +91,7 @@ impl<'a, L: Run, R: Wait + Clock, G: Gate + Drop> Reloads<'a, L, R, G> {
     }
 
     /// Installs a policy, whose text has so many bytes, counts what its entry keeps, and drops the old entries of the history.
-    fn install(&mut self, ready: Ready, bytes: usize) {
+    fn install(&mut self, ready: CompiledPolicy, bytes: usize) {
         self.port.pass(Point::Prepared);
         self.submit(ready);
         self.port.keep(bytes.saturating_mul(MADE_OF_TEXT));
@@ -100,7 +100,7 @@ impl<'a, L: Run, R: Wait + Clock, G: Gate + Drop> Reloads<'a, L, R, G> {
 
     /// Enters a reload, and prints what came of it. Meanwhile no other policy comes into force, so that the lines stand in the
     /// order of the epochs.
-    fn submit(&mut self, ready: Ready) {
+    fn submit(&mut self, ready: CompiledPolicy) {
         let installs = self.installs;
         let mut epoch = installs.epoch.lock(self.rt);
         let next = epoch.saturating_add(1);

@@ -9,7 +9,7 @@ use Rattle.hub.specs.History.{State, IsLegalRun, stepped}
 use Rattle.hub.specs.Segments.{IsReached}
 use Rattle.shared_waits.specs.receipts.Receipts.{Receipt}
 
--- A hub, with what every hub keeps: a legal run leads from the opening of one to its world (`Hub::use_invariant`).
+-- A hub, with what every hub keeps: a legal run leads from the opening of one to its world (`Hub::prove_invariant`).
 pub record IsHub (s : State) : Type 0 where
   pub sound : IsSound s.world
   pub reached : IsReached s.opening

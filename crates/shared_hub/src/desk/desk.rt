@@ -11,8 +11,8 @@ use crate::desk::views::{AtMoment, HubOutboxes};
 use base::{Copying, Items, NoMemory};
 use events::Words;
 use hub::{
-    Answer, Command, Entry, Event, Hub, HubRefusal, Message, Outcome, PublishRefusal, Ready,
-    Segment,
+    Answer, Command, CompiledPolicy, Entry, Event, Hub, HubRefusal, Message, Outcome,
+    PublishRefusal, Segment,
 };
 use shared_waits::receipts::Receipt;
 use shared_waits::{Outboxes, Waits};
@@ -136,14 +136,14 @@ impl<L: Run> Desk<L> {
     /// Tells what holds of every desk, so whenever the lock is free (docs/GUARANTEE.md, "Threads"): its hub keeps what
     /// every hub keeps, what it holds of its history is legal, and the book counts the entries since the run opened. As long
     /// as it counts none, the hub's world is that with which the run opened.
-    pub fn use_invariant(&self)
+    pub fn prove_invariant(&self)
         ensures hub { IsHub self.now.hub }
         ensures sound { IsSound self.now.hub.world }
         ensures legal { IsLegalRun self.now.hub.opening self.now.hub.entries self.now.hub.world }
         ensures counted { self.now.hub.world.number ≡ L.opening + self.now.book.total }
         ensures begun { self.now.book.total ≡ 0 → self.now.hub.world ≡ L.first.world }
     {
-        self.hub.use_invariant();
+        self.hub.prove_invariant();
     }
 
     /// Ends the run: brings the parts of all seats together, which count what the book has.
@@ -255,7 +255,7 @@ impl<L: Run> Desk<L> {
         ensures number { IfOk result (λ r. L.opening + seat.new.count ≤ r.entry.number) }
         ensures waits { self.new.waits ≡ self.old.waits }
     {
-        self.use_invariant();
+        self.prove_invariant();
         let ready = match ready_after(self.alloc, &self.hub, &event) {
             Ok(ready) => ready,
             Err(_) => return Err((event, HubRefusal::NoMemory)),
@@ -315,7 +315,7 @@ impl<L: Run> Desk<L> {
         ensures same { OnErr result (self.new.waits ≡ self.old.waits) }
         ensures none { OnErr result (told.new.freed.items ≡ told.old.freed.items) }
     {
-        self.use_invariant();
+        self.prove_invariant();
         if told.freed.reserve(self.waits.len()).is_err() {
             let refusal = self.hub.refusal(&event);
             return Err((event, refusal));
@@ -352,10 +352,7 @@ impl<L: Run> Desk<L> {
                 self.waits.remove(gone_of(&entry.outcome), &mut told.freed);
                 told.rest = None;
             }
-            Command::Connect { .. } => told.rest = None,
-            Command::Sub { .. } => told.rest = None,
-            Command::Unsub { .. } => told.rest = None,
-            Command::Pub { .. } => told.rest = None,
+            _ => told.rest = None,
         }
     }
 
@@ -387,7 +384,7 @@ impl<L: Run> Desk<L> {
         ensures freed { told.new.freed.items ≡ told.old.freed.items }
         ensures rest { told.new.rest ≡ told.old.rest }
     {
-        self.use_invariant();
+        self.prove_invariant();
         self.take_out(&event.what);
         told.until = None;
         told.slow = None;
@@ -474,7 +471,7 @@ impl<L: Run> Desk<L> {
         ensures hub { self.new.hub ≡ self.old.hub }
         ensures held { self.new.held.items ≡ self.old.held.items }
     {
-        self.hub.use_invariant();
+        self.hub.prove_invariant();
         let Some(publisher) = publisher_of(&event.what) else {
             return PublishRefusal::Held;
         };
@@ -505,12 +502,7 @@ fn publisher_of(what: &Command) -> Option<u64>
 {
     match what {
         Command::Pub { conn, .. } => Some(*conn),
-        Command::Connect { .. } => None,
-        Command::Sub { .. } => None,
-        Command::Unsub { .. } => None,
-        Command::Take { .. } => None,
-        Command::Close { .. } => None,
-        Command::Reload(_) => None,
+        _ => None,
     }
 }
 
@@ -520,16 +512,7 @@ fn gone_of(outcome: &Outcome) -> &[u64]
 {
     match outcome {
         Outcome::Reloaded { gone, .. } => gone.as_slice(),
-        Outcome::Connected => &[],
-        Outcome::AuthViolation => &[],
-        Outcome::Subscribed => &[],
-        Outcome::SameSid => &[],
-        Outcome::SubLimit => &[],
-        Outcome::Denied(_) => &[],
-        Outcome::Published(_, _) => &[],
-        Outcome::Taken(_, _) => &[],
-        Outcome::Unsubscribed => &[],
-        Outcome::Closed => &[],
+        _ => &[],
     }
 }
 
@@ -537,17 +520,12 @@ ghost use Rattle.hub.specs.InForce.{policy_after};
 ghost use Rattle.std.specs.Prelude.{◌<◌, ◌^◌, IfOk};
 
 /// Makes a handle of the policy that is in force after an event, if the event is answered.
-fn ready_after(alloc: Global, hub: &Hub, event: &Event) -> Result<Ready, NoMemory>
+fn ready_after(alloc: Global, hub: &Hub, event: &Event) -> Result<CompiledPolicy, NoMemory>
     ensures { IfOk result (λ ready. ready ≡ policy_after hub.now.world event.entry.now.what) }
 {
     match &event.what {
         Command::Reload(ready) => ready.copy(alloc),
-        Command::Connect { .. } => hub.ready().copy(alloc),
-        Command::Sub { .. } => hub.ready().copy(alloc),
-        Command::Unsub { .. } => hub.ready().copy(alloc),
-        Command::Pub { .. } => hub.ready().copy(alloc),
-        Command::Take { .. } => hub.ready().copy(alloc),
-        Command::Close { .. } => hub.ready().copy(alloc),
+        _ => hub.ready().copy(alloc),
     }
 }
 

@@ -6,7 +6,7 @@ ghost use Rattle.shared_waits.specs.receipts.Receipts.{has_verdict, may_respond,
 
 use events::{Answer, Command, Entry, Outcome};
 use permissions::{By, Verdict};
-use policy_ready::{Ready, User};
+use policy_ready::{CompiledPolicy, User};
 use std::marker::Model;
 use subjects::{Pattern, Subject};
 
@@ -16,7 +16,7 @@ use subjects::{Pattern, Subject};
 #[derive(Debug)]
 pub struct Receipt {
     answer: Answer,
-    ready: Ready,
+    ready: CompiledPolicy,
 }
 
 impl Drop for Receipt {
@@ -46,7 +46,7 @@ impl Receipt {
 
     /// Makes the receipt of an answer under a policy. There is one exactly if the policy has a user with the verdict that
     /// the answer tells, or it tells none.
-    pub fn from_parts(answer: Answer, ready: Ready) -> Option<Receipt>
+    pub fn from_parts(answer: Answer, ready: CompiledPolicy) -> Option<Receipt>
         ensures { MatchOption result (is_of_policy ready answer.event.what answer.outcome ≡ false) (λ made. (made ≡ receipt answer ready) × (is_of_policy ready answer.event.what answer.outcome ≡ true)) }
     {
         if is_of_policy(answer.get(), &ready) {
@@ -57,7 +57,7 @@ impl Receipt {
     }
 
     /// Makes the receipt of an answer that the policy is known to have given.
-    pub fn of(answer: Answer, ready: Ready) -> Receipt
+    pub fn of(answer: Answer, ready: CompiledPolicy) -> Receipt
         requires { is_of_policy ready answer.event.what answer.outcome ≡ true }
         ensures { result ≡ receipt answer ready }
     {
@@ -72,7 +72,7 @@ impl Receipt {
     }
 
     /// The answer, the command that it is an answer to, and the policy in force after it.
-    pub fn parts(&self) -> (&Answer, &Command, &Ready)
+    pub fn parts(&self) -> (&Answer, &Command, &CompiledPolicy)
         ensures answer { result.0.now ≡ self.now.entry }
         ensures command { result.1.now ≡ self.now.entry.event.what }
         ensures ready { result.2.now ≡ self.now.policy }
@@ -83,7 +83,7 @@ impl Receipt {
 }
 
 /// Whether the policy has a user with the verdict that the entry tells, if it tells one.
-fn is_of_policy(entry: &Entry, ready: &Ready) -> bool
+fn is_of_policy(entry: &Entry, ready: &CompiledPolicy) -> bool
     ensures { result ≡ of_policy ready.now entry.now.event.what entry.now.outcome }
 {
     let command = &entry.event.what;
@@ -91,26 +91,19 @@ fn is_of_policy(entry: &Entry, ready: &Ready) -> bool
         Outcome::Subscribed => some_may_have(ready, command),
         Outcome::Denied(verdict) => some_has_verdict(ready, command, *verdict),
         Outcome::Published(by, _) => some_allows(ready, command, *by),
-        Outcome::Connected => true,
-        Outcome::AuthViolation => true,
-        Outcome::SameSid => true,
-        Outcome::SubLimit => true,
-        Outcome::Taken(_, _) => true,
-        Outcome::Unsubscribed => true,
-        Outcome::Closed => true,
-        Outcome::Reloaded { .. } => true,
+        _ => true,
     }
 }
 
 /// Whether some user may have the subscription that a command asks for.
-fn some_may_have(ready: &Ready, command: &Command) -> bool
+fn some_may_have(ready: &CompiledPolicy, command: &Command) -> bool
     ensures { result ≡ list_any (may_have command.now) (users_of ready.now) }
 {
     ready.users().iter().any(|user| may_have(command, user))
 }
 
 /// Whether some user has this verdict on what a command asks for.
-fn some_has_verdict(ready: &Ready, command: &Command, verdict: Verdict) -> bool
+fn some_has_verdict(ready: &CompiledPolicy, command: &Command, verdict: Verdict) -> bool
     ensures { result ≡ list_any (has_verdict command.now verdict) (users_of ready.now) }
 {
     ready
@@ -120,7 +113,7 @@ fn some_has_verdict(ready: &Ready, command: &Command, verdict: Verdict) -> bool
 }
 
 /// Whether the Pub of some user was allowed by this: by its lists, or as a response.
-fn some_allows(ready: &Ready, command: &Command, by: By) -> bool
+fn some_allows(ready: &CompiledPolicy, command: &Command, by: By) -> bool
     ensures { result ≡ some_allows ready.now command.now by }
 {
     match by {
@@ -131,7 +124,7 @@ fn some_allows(ready: &Ready, command: &Command, by: By) -> bool
 }
 
 /// Whether some user may publish what a command asks for as a response alone.
-fn some_may_respond(ready: &Ready, command: &Command) -> bool
+fn some_may_respond(ready: &CompiledPolicy, command: &Command) -> bool
     ensures { result ≡ list_any (may_respond command.now) (users_of ready.now) }
 {
     ready.users().iter().any(|user| may_respond(command, user))
@@ -155,12 +148,7 @@ fn may_have(command: &Command, user: &User) -> bool
         Command::Sub { subject, queue, .. } => {
             on_subscription(user, subject.get(), queue).is_allowed()
         }
-        Command::Connect { .. } => false,
-        Command::Unsub { .. } => false,
-        Command::Pub { .. } => false,
-        Command::Take { .. } => false,
-        Command::Close { .. } => false,
-        Command::Reload(_) => false,
+        _ => false,
     }
 }
 
@@ -173,11 +161,7 @@ fn has_verdict(command: &Command, verdict: Verdict, user: &User) -> bool
             is_same(on_subscription(user, subject.get(), queue), verdict)
         }
         Command::Pub { message, .. } => is_same(user.rules.publish(&message.subject()), verdict),
-        Command::Connect { .. } => false,
-        Command::Unsub { .. } => false,
-        Command::Take { .. } => false,
-        Command::Close { .. } => false,
-        Command::Reload(_) => false,
+        _ => false,
     }
 }
 
@@ -189,12 +173,7 @@ fn may_respond(command: &Command, user: &User) -> bool
         Command::Pub { message, .. } => {
             user.rules.terms().is_some() && !user.rules.publish(&message.subject()).is_allowed()
         }
-        Command::Connect { .. } => false,
-        Command::Sub { .. } => false,
-        Command::Unsub { .. } => false,
-        Command::Take { .. } => false,
-        Command::Close { .. } => false,
-        Command::Reload(_) => false,
+        _ => false,
     }
 }
 

@@ -40,7 +40,7 @@ impl Connections {
     }
 
     /// Tells the prover what always holds: no connection stands twice. It does nothing when it runs.
-    pub fn use_invariant(&self)
+    pub fn prove_invariant(&self)
         ensures { IsDistinct nat_eq self.now }
     {
         let _keys = self.conns.as_slice();

@@ -7,7 +7,7 @@ ghost use Rattle.world_routing.specs.marks.Again.{user_after, AreMarksAgain, IsM
 
 use base::NoMemory;
 use permissions::deny_marks::{DenyMarks, Marks};
-use policy_ready::Ready;
+use policy_ready::CompiledPolicy;
 use std::alloc::Global;
 use world_sessions::Sessions;
 use world_subscriptions::{SharedSubscription, Subscriptions};
@@ -16,7 +16,7 @@ use world_subscriptions::{SharedSubscription, Subscriptions};
 #[derive(Clone, Copy)]
 pub struct Renewing<'a> {
     /// The policy.
-    pub ready: &'a Ready,
+    pub ready: &'a CompiledPolicy,
     /// The sessions as they are.
     pub sessions: &'a Sessions,
     /// Beside each, whether its user has the same subscribe lists under the policy: what `Sessions::same_lists` gives for it.
@@ -81,8 +81,8 @@ pub fn marks_again(
     requires marked { AreMarked renewing.sessions.now subscriptions.now renewing.marks.now }
     ensures { IfOk result (λ marks. (now : ℕ) → AreMarked (remaining now renewing.entry.ready.now renewing.entry.sessions.now) subscriptions.now marks) }
 {
-    renewing.sessions.use_invariant();
-    subscriptions.use_invariant();
+    renewing.sessions.prove_invariant();
+    subscriptions.prove_invariant();
     let mut marks = DenyMarks::new(alloc);
     for subscription in subscriptions.values() {
         mark_again(&mut marks, renewing, subscription)?;

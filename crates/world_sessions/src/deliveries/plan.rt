@@ -28,7 +28,7 @@ pub fn place_in(by: ByConnection<'_>, conn: u64) -> Option<usize>
     requires { by.conns.now ≡ map connection_of by.list.now }
     ensures { result ≡ position (λ (z : Session). z.conn == conn) by.entry.list.now }
 {
-    by.conns.use_invariant();
+    by.conns.prove_invariant();
     let hint = by.conns.hint(conn);
     match by.list.get(hint) {
         None => {}

@@ -71,10 +71,10 @@ impl Session {
     }
 
     /// Counts a response on the grant for a subject, if there is one.
-    pub fn count_response(&mut self, subject: &SubjectRef<'_>)
+    pub fn spend(&mut self, subject: &SubjectRef<'_>)
         ensures { self.new ≡ responding subject.now self.old }
     {
-        self.replies.count_response(subject);
+        self.replies.spend(subject);
     }
 
     /// Drops the grant for a subject, if there is one, where as many responses have passed on it as may.

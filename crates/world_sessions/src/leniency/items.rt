@@ -11,15 +11,6 @@ pub fn items_in(outcome: &Outcome) -> &[Item]
 {
     match outcome {
         Outcome::Published(_, items) => items.as_slice(),
-        Outcome::Connected => &[],
-        Outcome::AuthViolation => &[],
-        Outcome::Subscribed => &[],
-        Outcome::SameSid => &[],
-        Outcome::SubLimit => &[],
-        Outcome::Denied(_) => &[],
-        Outcome::Taken(_, _) => &[],
-        Outcome::Unsubscribed => &[],
-        Outcome::Closed => &[],
-        Outcome::Reloaded { .. } => &[],
+        _ => &[],
     }
 }

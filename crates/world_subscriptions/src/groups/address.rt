@@ -66,7 +66,7 @@ pub fn passing_of<'a, K: Keeps>(
     ensures found { IfOk result (λ found. map (λ s. s.now) found.items ≡ filter (K.keeps test.now) (having account.now subject.now subscriptions.now)) }
     ensures rising { IfOk result (λ found. Rising (map (λ s. s.now) found.items)) }
 {
-    subscriptions.use_invariant();
+    subscriptions.prove_invariant();
     subscriptions.having(account, subject, ids)?;
     let found = passing(alloc, subscriptions, ids.as_slice(), test)?;
     Ok(found)
@@ -149,7 +149,7 @@ pub fn address_served<K: Keeps>(
         (served routed.entry.word (filter (K.keeps test.now) (having routed.entry.account.now routed.entry.message.now.subject subscriptions.now)))) }
 {
     let message = routed.message;
-    subscriptions.use_invariant();
+    subscriptions.prove_invariant();
     subscriptions.having(routed.account, &message.subject(), ids)?;
     all.clear();
     if address_all_plain(subscriptions, ids.as_slice(), test, message, all)? {

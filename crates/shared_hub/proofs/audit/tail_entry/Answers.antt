@@ -10,7 +10,7 @@ use Rattle.shared_hub.proofs.audit.tail_entry.Goals as goal
 pub returns : goal.returns
 returns c =
     let s = c.args.hub.now in
-    look_up s.opening s.entries s.world c.args.number (option_copied c.entry_after.result) c.use_invariant.ensures.legal
+    look_up s.opening s.entries s.world c.args.number (option_copied c.entry_after.result) c.prove_invariant.ensures.legal
     (c.entry_after.ensures
     ∙ ap (λ (b : ℕ). entry_after b c.history.result.now.entries c.args.number) (c.number.ensures ∙ ap (λ (w : World). w.number) c.opening.ensures)
     ∙ ap (λ (l : List Entry). entry_after s.opening.number l c.args.number) c.history.ensures.entries)

@@ -37,5 +37,5 @@ loop-subscription-preserved c =
       ids = moved (lost_id doc zs) _ _ _ c.in-Some.subscription.now c.next.new.self _ told.ids left c.loop-subscription.invariant.ids;
       sound = All-tail (λ (sub : Subscription). may_stand (verdict_before zs sub) ≡ true) c.in-Some.subscription.now _
           (subst (AllMayStand zs) left c.loop-subscription.invariant.sound);
-      reason = λ all. c.loop-subscription.invariant.reason (subst Each (sym left) (All-cons reason _ _ (c.has_reason.ensures doc zs) all));
+      reason = λ all. c.loop-subscription.invariant.reason (subst Each (sym left) (All-cons reason _ _ (c.prove_reason.ensures doc zs) all));
     }

@@ -9,4 +9,4 @@ pub returns : goal.returns
 returns c = λ doc zs is.
     c.remove_each.ensures
     ∙ ap (λ (ids : List ℕ). without ids c.args.subscriptions.now) (is ∙ lost_ids (stands_on doc zs) c.args.subscriptions.now)
-    ∙ passing_left (stands_on doc zs) c.args.subscriptions.now c.use_invariant.ensures.apart
+    ∙ passing_left (stands_on doc zs) c.args.subscriptions.now c.prove_invariant.ensures.apart

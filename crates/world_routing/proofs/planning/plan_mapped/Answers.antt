@@ -56,6 +56,6 @@ returns-clause-planned c = λ w of.
     let t : Tables = tables_at doc now zs subs routes in
     planned_elsewhere conn z w (c.in-Some.ensures ∙ ap (λ (x : Tables). session_of x.sessions conn) (sym of)) (Ok c.in_ok-plan.plan) by m word (Under s)
     (subst (λ (x : Mapped). IsElsewhere x (Ok (Some (Under s)))) (sym sent.mapped) refl)
-    (planned_told t conn (under_subject s m) word z m c.in-Some.ensures by c.use_invariant.ensures.apart c.use_invariant.ensures.going
+    (planned_told t conn (under_subject s m) word z m c.in-Some.ensures by c.prove_invariant.ensures.apart c.prove_invariant.ensures.going
     _ c.in_ok-answered-in-Some.ensures None (drawn_unreported doc now zs subs routes z m word all sent) (drawn_unchanged doc now zs subs routes z m word all sent) tt
     _ (drawn_addressed doc now zs subs routes z m word all sent) _ c.in_ok-plan.ensures.planned w of)

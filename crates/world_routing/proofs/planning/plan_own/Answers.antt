@@ -35,6 +35,6 @@ returns-clause-planned c = λ w of.
     let m = c.args.permitted.publish.message.now in
     let z = c.in-Some.session.now in
     let t : Tables = tables_at c.args.ready.now c.args.permitted.publish.now c.args.sessions.now c.args.subscriptions.now c.args.routes.now.exporters in
-    planned_told t c.args.permitted.publish.conn m c.args.permitted.publish.word z m c.in-Some.ensures c.args.permitted.by c.use_invariant.ensures.apart c.use_invariant.ensures.going
+    planned_told t c.args.permitted.publish.conn m c.args.permitted.publish.word z m c.in-Some.ensures c.args.permitted.by c.prove_invariant.ensures.apart c.prove_invariant.ensures.going
     _ c.in_ok-answered_by-in-Some.ensures _ c.in_ok-address_all-in-Some.ensures.addressed.reports c.in_ok-address_all-in-Some.ensures.addressed.changed c.in_ok-address_all-in-Some.ensures.addressed.noted
     _ c.in_ok-address_all-in-Some.ensures.addressed.all _ c.in_ok-plan.ensures.planned w of

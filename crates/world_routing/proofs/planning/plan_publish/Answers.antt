@@ -18,7 +18,7 @@ plan_alone-requires c = λ none.
     let at = subst (λ (o : Option By). IfSome o (λ allowed. (rows : List ImportRow) (zs : List Session) (subs : List Subscription) →
     IsCurrent rows zs subs c.args.caches.now.receivers.cache → IsAloneAt rows zs subs c.args.publish.conn m c.args.publish.word allowed c.address_alone.new.self.deliveries.items))
     c.in-Some.is c.in_ok-by.ensures.tells (rows_of c.args.ready.now) zs subs c.requires.cached in
-    alone_unsaid c.args.ready.now c.args.publish.now zs subs c.args.routes.now.exporters c.use_invariant.ensures.going c.args.publish.conn m c.args.publish.word _ _ at none
+    alone_unsaid c.args.ready.now c.args.publish.now zs subs c.args.routes.now.exporters c.prove_invariant.ensures.going c.args.publish.conn m c.args.publish.word _ _ at none
 
 pub returns-in-Some-clause-planned : goal.returns-in-Some-clause-planned
 returns-in-Some-clause-planned c = λ w of.
@@ -28,5 +28,5 @@ returns-in-Some-clause-planned c = λ w of.
     let at = subst (λ (o : Option By). IfSome o (λ allowed. (rows : List ImportRow) (zs : List Session) (subs : List Subscription) →
     IsCurrent rows zs subs c.args.caches.now.receivers.cache → IsAloneAt rows zs subs c.args.publish.conn m c.args.publish.word allowed c.address_alone.new.self.deliveries.items))
     c.in-Some.is c.in_ok-by.ensures.tells (rows_of c.args.ready.now) zs subs c.requires.cached in
-    alone_comes c.args.ready.now c.args.publish.now zs subs c.args.routes.now.exporters c.use_invariant.ensures.going c.args.publish.conn m c.args.publish.word _ _ at
-    c.use_invariant.ensures.apart _ c.plan_alone.ensures.planned c.plan_alone.ensures.refused w of
+    alone_comes c.args.ready.now c.args.publish.now zs subs c.args.routes.now.exporters c.prove_invariant.ensures.going c.args.publish.conn m c.args.publish.word _ _ at
+    c.prove_invariant.ensures.apart _ c.plan_alone.ensures.planned c.plan_alone.ensures.refused w of

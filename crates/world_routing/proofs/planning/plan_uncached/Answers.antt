@@ -72,7 +72,7 @@ returns-clause-planned c = λ w of.
     let plan = Ok c.in_ok-plan-2.plan in
     planned_publish conn z w found plan by m word c.subject-subject.result c.subject-subject.ensures (c.in-Allowed.ensures.verdict ∙ ap (λ (x : Tables). verdict_on x.now z c.subject-subject.result) (sym of))
     (planned_unmapped conn z w found plan by m word (c.is_mapped.ensures c.if-is_mapped.false)
-    (planned_told t conn m word z m c.in-Some.ensures by c.use_invariant.ensures.apart c.use_invariant.ensures.going
+    (planned_told t conn m word z m c.in-Some.ensures by c.prove_invariant.ensures.apart c.prove_invariant.ensures.going
     _ c.in_ok-answered.ensures _ c.in_ok-told.ensures.addressed.reports c.in_ok-told.ensures.addressed.changed c.in_ok-told.ensures.addressed.noted
     _ c.in_ok-told.ensures.addressed.all _ c.in_ok-plan-2.ensures.planned w of))
 

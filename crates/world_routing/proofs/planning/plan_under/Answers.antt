@@ -30,6 +30,6 @@ returns-clause-planned c = λ w of.
     let m = publish.message.now in
     let s = c.args.sent_on.subject in
     let t : Tables = tables_at c.args.ready.now publish.now c.args.sessions.now c.args.subscriptions.now c.args.routes.now.exporters in
-    planned_told t publish.conn (under_subject s m) publish.word z m c.in-Some.ensures c.args.sent_on.permitted.by c.use_invariant.ensures.apart c.use_invariant.ensures.going
+    planned_told t publish.conn (under_subject s m) publish.word z m c.in-Some.ensures c.args.sent_on.permitted.by c.prove_invariant.ensures.apart c.prove_invariant.ensures.going
     _ c.in_ok-answered-in-Some.ensures _ c.in_ok-told-in-Some.ensures.addressed.reports c.in_ok-told-in-Some.ensures.addressed.changed c.in_ok-told-in-Some.ensures.addressed.noted
     _ c.in_ok-told-in-Some.ensures.addressed.all _ c.in_ok-plan.ensures.planned w of

@@ -18,14 +18,14 @@ pub returns-then-is_own_alone-clause-addressed : goal.returns-then-is_own_alone-
 returns-then-is_own_alone-clause-addressed c =
     let t : Tables = tables_at c.args.publishing.ready.now c.args.publishing.now c.args.sessions.now c.args.subscriptions.now c.args.routes.now.exporters in
     let p : Publication = publication c.args.publishing.sending.publisher.now c.args.publishing.sending.message.now c.args.publishing.sending.word in
-    let is : c.address.new.self.deliveries.items ≡ own t p = c.in_ok-address.ensures.all ∙ own_first t.sessions t.subscriptions p.publisher p.message p.word c.use_invariant.ensures.going in
+    let is : c.address.new.self.deliveries.items ≡ own t p = c.in_ok-address.ensures.all ∙ own_first t.sessions t.subscriptions p.publisher p.message p.word c.prove_invariant.ensures.going in
     own_alone t p _ c.args.routes.now.exporters c.rows-2.ensures refl (c.is_own_alone.ensures c.if-is_own_alone.true) c.address.new.self.deliveries.items is
 
 pub returns-then-branch-clause-addressed : goal.returns-then-branch-clause-addressed
 returns-then-branch-clause-addressed c =
     let t : Tables = tables_at c.args.publishing.ready.now c.args.publishing.now c.args.sessions.now c.args.subscriptions.now c.args.routes.now.exporters in
     let p : Publication = publication c.args.publishing.sending.publisher.now c.args.publishing.sending.message.now c.args.publishing.sending.word in
-    let is : c.address.new.self.deliveries.items ≡ own t p = c.in_ok-address.ensures.all ∙ own_first t.sessions t.subscriptions p.publisher p.message p.word c.use_invariant.ensures.going in
+    let is : c.address.new.self.deliveries.items ≡ own t p = c.in_ok-address.ensures.all ∙ own_first t.sessions t.subscriptions p.publisher p.message p.word c.prove_invariant.ensures.going in
     let elsewhere : is_route p.message.subject ≡ false = sym (c.is_route.ensures ∙ ap is_route c.subject-subject.ensures) ∙ c.if-is_route.false in
     let knows = subst (λ (rows : List ImportRow). KnowsOthers (cached_others c.address.new.self.cache) rows t.sessions t.subscriptions p.publisher p.message.subject) c.rows.ensures c.in_ok-address.ensures.others in
     let tells = c.in_ok-address_others.ensures.tells c.if-branch.true in
@@ -43,7 +43,7 @@ pub returns-clause-addressed : goal.returns-clause-addressed
 returns-clause-addressed c =
     let t : Tables = tables_at c.args.publishing.ready.now c.args.publishing.now c.args.sessions.now c.args.subscriptions.now c.args.routes.now.exporters in
     let p : Publication = publication c.args.publishing.sending.publisher.now c.args.publishing.sending.message.now c.args.publishing.sending.word in
-    let is : c.address.new.self.deliveries.items ≡ own t p = c.in_ok-address.ensures.all ∙ own_first t.sessions t.subscriptions p.publisher p.message p.word c.use_invariant.ensures.going in
+    let is : c.address.new.self.deliveries.items ≡ own t p = c.in_ok-address.ensures.all ∙ own_first t.sessions t.subscriptions p.publisher p.message p.word c.prove_invariant.ensures.going in
     let elsewhere : is_route p.message.subject ≡ false = sym (c.is_route.ensures ∙ ap is_route c.subject-subject.ensures) ∙ c.if-is_route.false in
     let same : c.address_others.new.self.deliveries.items ≡ own t p = c.in_ok-address_others.ensures.same c.if-branch.false ∙ is in
     let by_subs : List Subscription → Addressing = λ ss.
@@ -64,7 +64,7 @@ pub returns-then-is_route-clause-addressed : goal.returns-then-is_route-clause-a
 returns-then-is_route-clause-addressed c =
     let t : Tables = tables_at c.args.publishing.ready.now c.args.publishing.now c.args.sessions.now c.args.subscriptions.now c.args.routes.now.exporters in
     let p : Publication = publication c.args.publishing.sending.publisher.now c.args.publishing.sending.message.now c.args.publishing.sending.word in
-    let is : c.address.new.self.deliveries.items ≡ own t p = c.in_ok-address.ensures.all ∙ own_first t.sessions t.subscriptions p.publisher p.message p.word c.use_invariant.ensures.going in
+    let is : c.address.new.self.deliveries.items ≡ own t p = c.in_ok-address.ensures.all ∙ own_first t.sessions t.subscriptions p.publisher p.message p.word c.prove_invariant.ensures.going in
     let is_on : is_route p.message.subject ≡ true = sym (c.is_route.ensures ∙ ap is_route c.subject-subject.ensures) ∙ c.if-is_route.true in
     let by_subs : List Subscription → Addressing = λ ss. addressed_after (record t { subscriptions = ss }) p (addressing c.address.new.self.deliveries.items []) (asker t p is_on) in
     let by_own : List Addressed → Addressing = λ ds. addressed_after t p (addressing ds []) (asker t p is_on) in

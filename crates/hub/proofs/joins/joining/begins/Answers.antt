@@ -25,5 +25,5 @@ loop-segment-preserved c =
 pub returns : goal.returns
 returns c = λ q opening at empty judged.
     let P : HistoryPart → Type 0 = λ p. is_before (place p) c.nearest_below-nearest.result c.args.at c.args.empty ≡ true → c.args.opening.now ≡ p.closing in
-    begins-tail c.args.segments.now c.args.hub.now q c.args.opening.now c.nearest_below-nearest.result c.args.at c.args.empty c.tail_leads_to.result c.use_invariant.ensures.legal
+    begins-tail c.args.segments.now c.args.hub.now q c.args.opening.now c.nearest_below-nearest.result c.args.at c.args.empty c.tail_leads_to.result c.prove_invariant.ensures.legal
     opening at empty judged c.nearest_below-nearest.ensures (subst (All P) (take_all _ _ c.loop-segment-test.false) c.loop-segment.invariant) c.tail_leads_to.ensures

@@ -11,7 +11,7 @@ IsNumbered p = p.closing.number < 18446744073709551616
 
 pub loop-segment-preserved : goal.loop-segment-preserved
 loop-segment-preserved c =
-    let part : IsHistoryPart c.segment-item.result = record { reached = c.use_invariant.ensures.reached; legal = c.use_invariant.ensures.legal } in
+    let part : IsHistoryPart c.segment-item.result = record { reached = c.prove_invariant.ensures.reached; legal = c.prove_invariant.ensures.legal } in
     let number = c.number.ensures ∙ ap (λ (w : World). w.number) c.closing.ensures in
     let numbered : IsNumbered c.segment-item.result = subst (λ n. n < 18446744073709551616) number c.number.type_inv in
     record {
@@ -22,7 +22,7 @@ loop-segment-preserved c =
 pub returns-clause-parts : goal.returns-clause-parts
 returns-clause-parts c =
     All-push IsHistoryPart c.args.segments.now (tail_of c.args.hub.now) (subst (All IsHistoryPart) (take_all _ _ c.loop-segment-test.false) c.loop-segment.invariant.parts)
-    (record { reached = c.use_invariant-2.ensures.reached; legal = c.use_invariant-2.ensures.legal })
+    (record { reached = c.prove_invariant-2.ensures.reached; legal = c.prove_invariant-2.ensures.legal })
 
 pub returns-clause-numbers : goal.returns-clause-numbers
 returns-clause-numbers c =

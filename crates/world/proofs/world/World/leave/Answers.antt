@@ -18,5 +18,5 @@ invariant_of-self c =
       c.trim_marks.ensures.kept c.remove.new.self
           (subst (λ (zs : List Session). AreMarked zs c.remove-2.new.self h.caches.marks) (sym c.remove.ensures)
           (subst (λ (subs : List Subscription). AreMarked (filter (λ (z : Session). not (z.conn == c.args.conn)) h.sessions) subs h.caches.marks) (sym c.remove-2.ensures)
-          (marked_left h.caches.marks h.sessions c.args.conn h.subscriptions c.use_invariant.ensures c.self.invariant.4))),
+          (marked_left h.caches.marks h.sessions c.args.conn h.subscriptions c.prove_invariant.ensures c.self.invariant.4))),
     )

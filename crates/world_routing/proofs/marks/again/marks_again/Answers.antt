@@ -29,7 +29,7 @@ loop-subscription-preserved c =
         before ++ sub ∷ [],
         append_assoc before (sub ∷ []) c.next.new.self ∙ whole,
         marked_more r.ready.now r.sessions.now c.loop-subscription.marks c.mark_again.new.marks before sub c.next.new.self
-            (subst (AllPairs (λ (s t : Subscription). s.id < t.id)) (sym whole) c.use_invariant-2.ensures.ids) c.in_ok-mark_again.ensures.others c.in_ok-mark_again.ensures.own given.2,
+            (subst (AllPairs (λ (s t : Subscription). s.id < t.id)) (sym whole) c.prove_invariant-2.ensures.ids) c.in_ok-mark_again.ensures.others c.in_ok-mark_again.ensures.own given.2,
       );
     }
 
@@ -39,5 +39,5 @@ returns c =
     let given = c.loop-subscription.invariant.again in
     let before : List Subscription = given.0 in
     let all : c.args.subscriptions.now ≡ before = sym given.1 ∙ ap (λ (rest : List Subscription). before ++ rest) c.in-None.ensures.steps.0 ∙ append-nil before in
-    all_remaining r.ready.now r.sessions.now c.args.subscriptions.now c.loop-subscription.marks c.use_invariant.ensures
+    all_remaining r.ready.now r.sessions.now c.args.subscriptions.now c.loop-subscription.marks c.prove_invariant.ensures
     (All-same (IsMarkedAgain r.ready.now r.sessions.now c.loop-subscription.marks) c.args.subscriptions.now before all given.2)

@@ -10,7 +10,7 @@ use Rattle.world_sessions.proofs.deliveries.plan.place_in.Goals as goal
 pub returns-then-session-conn : goal.returns-then-session-conn
 returns-then-session-conn c =
     place_hinted c.args.by.conns.now c.args.conn c.hint-hint.result c.args.by.list.now c.in-Some.session.now
-    (AllPairs-from_IsDistinct Decides-eqb c.args.by.conns.now c.use_invariant.ensures)
+    (AllPairs-from_IsDistinct Decides-eqb c.args.by.conns.now c.prove_invariant.ensures)
     c.requires
     (slice_get_read c.args.by.list.now (length c.args.by.list.now) c.hint-hint.result c.in-Some.session.now refl (ltb-true _ _ (sym c.in-Some.ensures.lookup.0)) c.in-Some.ensures.lookup.1)
     c.if-session-conn.true

@@ -30,7 +30,7 @@ note_all-requires-clause-apart c =
     let zs = c.self.inside.list.items in
     let new = left c.args.now doc zs c.args.self.now c.renew_list.new.list.items c.args.users.items c.self.view_is c.requires c.renew_list.ensures in
     subst (λ (ys : List Session). AllPairs IsApart ys) (sym (c.as_slice.ensures.value ∙ new))
-    (remaining-apart c.args.now doc zs (apart_by_keys c.self.inside.conns zs c.use_invariant.ensures c.self.invariant.0))
+    (remaining-apart c.args.now doc zs (apart_by_keys c.self.inside.conns zs c.prove_invariant.ensures c.self.invariant.0))
 
 pub invariant_of-self : goal.invariant_of-self
 invariant_of-self c =

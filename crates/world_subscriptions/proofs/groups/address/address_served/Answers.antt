@@ -44,7 +44,7 @@ returns g c =
     c.in_ok-found.ensures
     ∙ ap (λ (ids : List ℕ). filter p (found_by subs ids)) c.as_slice-2.ensures.value
     ∙ ap (filter p) (c.in_ok-having.ensures ∙ ap (λ (s : List Token). having c.args.routed.account.now s subs) subject) in
-    let rising : Rising xs = AllPairs-filter (λ (s t : Subscription). s.id < t.id) p all (AllPairs-filter (λ (s t : Subscription). s.id < t.id) (has_subject c.args.routed.account.now m.subject) subs c.use_invariant.ensures.ids) in
+    let rising : Rising xs = AllPairs-filter (λ (s t : Subscription). s.id < t.id) p all (AllPairs-filter (λ (s t : Subscription). s.id < t.id) (has_subject c.args.routed.account.now m.subject) subs c.prove_invariant.ensures.ids) in
     c.in_ok-address_each.ensures
     ∙ ap (λ (l : List Addressed). l ++ map (addressed_to m) (those c.as_slice-3.result.now)) c.clear-2.ensures.items
     ∙ ap (λ refs. map (addressed_to m) (those refs)) c.as_slice-3.ensures.value

@@ -16,4 +16,4 @@ returns-clause-rising g c =
     c.in_ok-found.ensures
     ∙ ap (λ ids. filter p (found_by subs ids)) c.as_slice.ensures.value
     ∙ ap (filter p) c.in_ok-having.ensures in
-    subst Rising (sym found) (AllPairs-filter (λ (s t : Subscription). s.id < t.id) p all (AllPairs-filter (λ (s t : Subscription). s.id < t.id) (has_subject c.args.account.now c.args.subject.now) subs c.use_invariant.ensures.ids))
+    subst Rising (sym found) (AllPairs-filter (λ (s t : Subscription). s.id < t.id) p all (AllPairs-filter (λ (s t : Subscription). s.id < t.id) (has_subject c.args.account.now c.args.subject.now) subs c.prove_invariant.ensures.ids))

@@ -4,4 +4,4 @@ use Rattle.world_subscriptions.proofs.subscriptions.Subscriptions.count.Goals as
 
 pub returns-clause-counted : goal.returns-clause-counted
 returns-clause-counted c m p is tell =
-    c.count_each.ensures ∙ counted_for m p c.args.all.now c.args.items.now c.args.self.now c.use_invariant.ensures.apart c.use_invariant.ensures.going is tell
+    c.count_each.ensures ∙ counted_for m p c.args.all.now c.args.items.now c.args.self.now c.prove_invariant.ensures.apart c.prove_invariant.ensures.going is tell

@@ -5,8 +5,8 @@ use Rattle.world_subscriptions.proofs.subscriptions.Subscriptions.limit.Goals as
 
 pub returns-in-None : goal.returns-in-None
 returns-in-None c =
-    sym (ap unended (limited-none c.args.conn c.args.sid.now c.args.most c.args.self.now (sym c.in-None.ensures)) ∙ c.use_invariant.ensures.going)
+    sym (ap unended (limited-none c.args.conn c.args.sid.now c.args.most c.args.self.now (sym c.in-None.ensures)) ∙ c.prove_invariant.ensures.going)
 
 pub returns-in-Some : goal.returns-in-Some
 returns-in-Some c =
-    c.limit_one.ensures ∙ ap unended (sym (limited-is c.args.conn c.args.sid.now c.args.most c.in-Some.id c.args.self.now c.use_invariant.ensures.apart (sym c.in-Some.ensures)))
+    c.limit_one.ensures ∙ ap unended (sym (limited-is c.args.conn c.args.sid.now c.args.most c.in-Some.id c.args.self.now c.prove_invariant.ensures.apart (sym c.in-Some.ensures)))

@@ -33,4 +33,4 @@ returns-in-Held-clause-step g c =
 pub returns-in-Held-clause-guarantee : goal.returns-in-Held-clause-guarantee
 returns-in-Held-clause-guarantee g c =
     held_guaranteed (terms_at c.args.self.now.waits c.args.self.now.hub c.args.event) c.args.self.now.hub c.hold-held.new.self.hub c.args.event c.in-Err.event c.hold-held.new.self.held.items c.hold-held.result
-    c.use_invariant.ensures.sound (returns-in-Held-clause-step g c)
+    c.prove_invariant.ensures.sound (returns-in-Held-clause-step g c)

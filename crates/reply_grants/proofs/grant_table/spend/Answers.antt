@@ -4,7 +4,7 @@ use Rattle.subjects.specs.Subject.{tokens_of}
 use Rattle.reply_grants.specs.Grants.{after_response}
 use Rattle.reply_grants.specs.Window.{window}
 use Rattle.reply_grants.proofs.Entries.{answered_first, none_from_lookup, none_dropped, none_answered}
-use Rattle.reply_grants.proofs.grant_table.count_response.Goals as goal
+use Rattle.reply_grants.proofs.grant_table.spend.Goals as goal
 
 pub returns-in-Some-clause-window : goal.returns-in-Some-clause-window
 returns-in-Some-clause-window c gone =

@@ -4,7 +4,7 @@ use Rattle.world_subscriptions.specs.Kept.{Apart}
 use Rattle.world_rows.specs.declared.subscription.Subscription.{Subscription}
 use Rattle.world_subscriptions.proofs.Entries.{going}
 use Rattle.world_subscriptions.proofs.Known.{ids_rise, sids_differ, none_ended}
-use Rattle.world_subscriptions.proofs.subscriptions.Subscriptions.use_invariant.Goals as goal
+use Rattle.world_subscriptions.proofs.subscriptions.Subscriptions.prove_invariant.Goals as goal
 
 pub returns-clause-ids : goal.returns-clause-ids
 returns-clause-ids c = ids_rise c.args.self.now (subst Apart c.self.view_is c.self.invariant.0.1)

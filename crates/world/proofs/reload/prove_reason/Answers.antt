@@ -3,7 +3,7 @@ use Rattle.std.proofs.Common.{◌∙◌}
 use Rattle.world_sessions.specs.deliveries.Sessions.{session_of}
 use Rattle.world.specs.Reload.{user_after}
 use Rattle.world.proofs.Reasons.{any_reason}
-use Rattle.world.proofs.reload.has_reason.Goals as goal
+use Rattle.world.proofs.reload.prove_reason.Goals as goal
 
 pub returns : goal.returns
 returns c = λ doc zs.

@@ -8,7 +8,7 @@ use Rattle.policy_doc.specs.Document.{IsValidPolicy}
 use Rattle.policy_ready.specs.Users.{is_same_user, users_of}
 use Rattle.policy_ready.specs.declared.ready.User.{User}
 use Rattle.policy_ready.proofs.Names.{name_of, are_named_once, first_same}
-use Rattle.policy_ready.proofs.ready.Ready.user_again.Goals as goal
+use Rattle.policy_ready.proofs.ready.CompiledPolicy.user_again.Goals as goal
 
 pub returns-in-Some : goal.returns-in-Some
 returns-in-Some c =

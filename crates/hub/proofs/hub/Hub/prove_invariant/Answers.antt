@@ -5,7 +5,7 @@ use Rattle.world.specs.World.{World}
 use Rattle.hub.specs.History.{State, IsOpening, IsLegalRun}
 use Rattle.hub.specs.Counts.{IsCounted}
 use Rattle.hub.proofs.Parts.{counted, opens}
-use Rattle.hub.proofs.hub.Hub.use_invariant.Goals as goal
+use Rattle.hub.proofs.hub.Hub.prove_invariant.Goals as goal
 
 pub returns-clause-opening : goal.returns-clause-opening
 returns-clause-opening c =

@@ -3,7 +3,7 @@ use Rattle.std.proofs.Common.{◌≡◌, subst}
 use Rattle.hub.specs.History.{IsOpening}
 use Rattle.hub.specs.Segments.{HistoryPart}
 use Rattle.hub.proofs.Parts.{opens}
-use Rattle.hub.proofs.segment.Segment.use_invariant.Goals as goal
+use Rattle.hub.proofs.segment.Segment.prove_invariant.Goals as goal
 
 pub returns-clause-opening : goal.returns-clause-opening
 returns-clause-opening c =
