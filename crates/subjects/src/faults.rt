@@ -20,9 +20,8 @@ pub fn subject_fault(text: &[u8]) -> Option<SubjectError>
 {
     let shape = shape_of(text);
     match first_fault(text, &shape) {
-        Some(fault) => Some(fault),
         None if shape.has_wildcard => Some(SubjectError::Wildcard),
-        None => None,
+        fault => fault,
     }
 }
 

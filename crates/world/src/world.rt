@@ -2,7 +2,7 @@
 use crate::change::{Change, Decided};
 use crate::copies::{Standing, standing_all};
 use crate::decide::SESSIONS;
-use crate::reload::is_valid;
+use crate::reload::prove_valid;
 use base::{Copying, Items, NoMemory, Shared};
 use events::{Answer, Command, Entry, Event, HubRefusal, Outcome, PublishRefusal};
 use policy_doc::Policy;

@@ -131,6 +131,12 @@ IsPermittedPlanned tables permitted answer =
     (w : World) → tables_of w ≡ tables → IsPlanned w (in_session (session_of w.sessions permitted.publish.conn) (λ z.
     mapped_to w z permitted.by permitted.publish.message.now permitted.publish.word (mapped_by z.user.mappings permitted.publish.message.now.subject permitted.publish.word))) answer
 
+-- one that is allowed and is seen as this message, under its own subject or another, comes to what it comes to in its views
+abbrev pub IsSeenPlanned : Tables → Permitted → Message → Result Plan HubRefusal → Type 0
+IsSeenPlanned tables permitted seen answer =
+    (w : World) → tables_of w ≡ tables → IsPlanned w (in_session (session_of w.sessions permitted.publish.conn) (λ z.
+    seen_as w z permitted.by permitted.publish.message.now.subject seen permitted.publish.word)) answer
+
 -- where a publish is planned, the verdict of its user's lists has its reason
 abbrev pub IsPublishReasoned : List Session → Publish → Result Plan HubRefusal → Type 0
 IsPublishReasoned zs publish answer =

@@ -13,7 +13,8 @@ ghost use Rattle.world_views.specs.Viewing.{tables_at};
 ghost use Rattle.account_mappings.specs.Drawing.{mapped_by};
 ghost use Rattle.world_routing.specs.Handing.{is_of_delivery};
 ghost use Rattle.world_routing.specs.Routing.{under_subject};
-ghost use Rattle.world_routing.specs.Publishing.{AreCurrent, IsElsewhere, IsKept, IsPermittedPlanned, IsPlanned, IsPlanOf, IsPublishPlanned, IsPublishReasoned, IsToldPlan, in_session, seen_as, seen_nowhere, tables_of};
+ghost use Rattle.world_routing.specs.Publishing.{AreCurrent, IsElsewhere, IsKept, IsPermittedPlanned, IsPlanned, IsPlanOf, IsPublishPlanned, IsPublishReasoned};
+ghost use Rattle.world_routing.specs.Publishing.{IsSeenPlanned, IsToldPlan, in_session, seen_nowhere};
 ghost use Rattle.policy_ready.specs.imports.Views.{is_route, rows_of};
 
 use crate::caches::Caches;
@@ -160,7 +161,8 @@ fn plan_told(
     answered: Option<GrantedResponse>,
     told: Option<Boxed<Told>>,
 ) -> Result<Plan, HubRefusal>
-    requires { message.now.reply ≡ None → All (λ (a : AddressedModel). a.delivery.message.reply ≡ None) receivers.old.deliveries.items }
+    requires { message.now.reply ≡ None
+        → All (λ (a : AddressedModel). a.delivery.message.reply ≡ None) receivers.old.deliveries.items }
     ensures planned { IfOk result (λ plan. IsToldPlan sessions.old by answered told receivers.old.deliveries.items plan) }
     ensures refused { IfErr result (λ reason. reason ≡ refusal.NoMemory) }
     ensures sessions { sessions.new ≡ sessions.old }
@@ -251,7 +253,8 @@ fn plan_nowhere(
 ) -> Result<Plan, HubRefusal>
     requires plain { is_of_delivery item ≡ false }
     ensures planned { (w : World) → w.sessions ≡ sessions.now
-        → IsPlanned w (in_session (session_of w.sessions publish.entry.conn) (λ z. seen_nowhere w z by publish.entry.message.now.subject item)) result }
+        → IsPlanned w (in_session (session_of w.sessions publish.entry.conn)
+        (λ z. seen_nowhere w z by publish.entry.message.now.subject item)) result }
 {
     match sessions.find(publish.conn) {
         None => Err(HubRefusal::NoSession),
@@ -280,8 +283,10 @@ fn plan_under<'p>(
     sent_on: SentOn<'p>,
 ) -> Result<Plan, HubRefusal>
     requires marked { AreMarked sessions.old subscriptions.now sent_on.permitted.marks.now }
-    ensures planned { (w : World) → tables_of w ≡ tables_at ready.now sent_on.entry.permitted.publish.now sessions.old subscriptions.now routes.old.exporters
-        → IsPlanned w (in_session (session_of w.sessions sent_on.entry.permitted.publish.conn) (λ z. seen_as w z sent_on.entry.permitted.by sent_on.entry.permitted.publish.message.now.subject (under_subject sent_on.entry.subject sent_on.entry.permitted.publish.message.now) sent_on.entry.permitted.publish.word)) result }
+    ensures planned { IsSeenPlanned
+        (tables_at ready.now sent_on.entry.permitted.publish.now sessions.old subscriptions.now routes.old.exporters)
+        sent_on.entry.permitted
+        (under_subject sent_on.entry.subject sent_on.entry.permitted.publish.message.now) result }
     ensures sessions { sessions.new ≡ sessions.old }
     ensures routes { routes.new.exporters ≡ routes.old.exporters }
     ensures cached { receivers.new.cache ≡ receivers.old.cache }
@@ -330,9 +335,11 @@ fn plan_own<'p>(
 ) -> Result<Plan, HubRefusal>
     requires cached { IsCurrent (rows_of ready.now) sessions.old subscriptions.old receivers.old.cache }
     requires marked { AreMarked sessions.old subscriptions.old permitted.marks.now }
-    ensures planned { (w : World) → tables_of w ≡ tables_at ready.now permitted.entry.publish.now sessions.old subscriptions.old routes.old.exporters
-        → IsPlanned w (in_session (session_of w.sessions permitted.entry.publish.conn) (λ z. seen_as w z permitted.entry.by permitted.entry.publish.message.now.subject permitted.entry.publish.message.now permitted.entry.publish.word)) result }
-    ensures kept { IsKept (rows_of ready.now) sessions.old subscriptions.old routes.old.exporters sessions.new subscriptions.new routes.new.exporters receivers.new.cache }
+    ensures planned { IsSeenPlanned
+        (tables_at ready.now permitted.entry.publish.now sessions.old subscriptions.old routes.old.exporters)
+        permitted.entry permitted.entry.publish.message.now result }
+    ensures kept { IsKept (rows_of ready.now) sessions.old subscriptions.old routes.old.exporters
+        sessions.new subscriptions.new routes.new.exporters receivers.new.cache }
 {
     let Permitted { publish, by, marks } = permitted;
     subscriptions.prove_invariant();
@@ -402,8 +409,11 @@ fn plan_anew<'p>(
 ) -> Result<Plan, HubRefusal>
     requires cached { IsCurrent (rows_of ready.now) sessions.old subscriptions.old receivers.old.cache }
     requires marked { AreMarked sessions.old subscriptions.old permitted.marks.now }
-    ensures planned { IsPermittedPlanned (tables_at ready.now permitted.entry.publish.now sessions.old subscriptions.old routes.old.exporters) permitted.entry result }
-    ensures kept { IsKept (rows_of ready.now) sessions.old subscriptions.old routes.old.exporters sessions.new subscriptions.new routes.new.exporters receivers.new.cache }
+    ensures planned { IsPermittedPlanned
+        (tables_at ready.now permitted.entry.publish.now sessions.old subscriptions.old routes.old.exporters)
+        permitted.entry result }
+    ensures kept { IsKept (rows_of ready.now) sessions.old subscriptions.old routes.old.exporters
+        sessions.new subscriptions.new routes.new.exporters receivers.new.cache }
 {
     let Permitted { publish, by, marks } = permitted;
     let elsewhere = match sessions.find(publish.conn) {
@@ -455,8 +465,11 @@ fn plan_mapped<'p>(
 ) -> Result<Plan, HubRefusal>
     requires cached { IsCurrent (rows_of ready.now) sessions.old subscriptions.old receivers.old.cache }
     requires marked { AreMarked sessions.old subscriptions.old permitted.marks.now }
-    ensures planned { IsPermittedPlanned (tables_at ready.now permitted.entry.publish.now sessions.old subscriptions.old routes.old.exporters) permitted.entry result }
-    ensures kept { IsKept (rows_of ready.now) sessions.old subscriptions.old routes.old.exporters sessions.new subscriptions.new routes.new.exporters receivers.new.cache }
+    ensures planned { IsPermittedPlanned
+        (tables_at ready.now permitted.entry.publish.now sessions.old subscriptions.old routes.old.exporters)
+        permitted.entry result }
+    ensures kept { IsKept (rows_of ready.now) sessions.old subscriptions.old routes.old.exporters
+        sessions.new subscriptions.new routes.new.exporters receivers.new.cache }
 {
     let Permitted {
         publish,
@@ -500,7 +513,8 @@ fn plan_alone(
     message: &Message,
     by: By,
 ) -> Result<Plan, HubRefusal>
-    requires { message.now.reply ≡ None → All (λ (a : AddressedModel). a.delivery.message.reply ≡ None) receivers.old.deliveries.items }
+    requires { message.now.reply ≡ None
+        → All (λ (a : AddressedModel). a.delivery.message.reply ≡ None) receivers.old.deliveries.items }
     ensures planned { IfOk result (λ plan. IsToldPlan sessions.old by None None receivers.old.deliveries.items plan) }
     ensures refused { IfErr result (λ reason. reason ≡ refusal.NoMemory) }
     ensures sessions { sessions.new ≡ sessions.old }
@@ -530,9 +544,11 @@ fn plan_uncached<'p>(
     publish: Publish<'p>,
 ) -> Result<Plan, HubRefusal>
     requires { AreCurrent ready.now sessions.old subscriptions.old caches.old }
-    ensures planned { IsPublishPlanned (tables_at ready.now publish.entry.now sessions.old subscriptions.old routes.old.exporters) publish.entry result }
+    ensures planned { IsPublishPlanned
+        (tables_at ready.now publish.entry.now sessions.old subscriptions.old routes.old.exporters) publish.entry result }
     ensures reason { IsPublishReasoned sessions.old publish.entry result }
-    ensures kept { IsKept (rows_of ready.now) sessions.old subscriptions.old routes.old.exporters sessions.new subscriptions.new routes.new.exporters caches.new.receivers.cache }
+    ensures kept { IsKept (rows_of ready.now) sessions.old subscriptions.old routes.old.exporters
+        sessions.new subscriptions.new routes.new.exporters caches.new.receivers.cache }
     ensures verdicts { AreRemembered ready.now caches.new.verdicts }
     ensures marked { caches.new.marks ≡ caches.old.marks }
 {
@@ -588,7 +604,8 @@ pub fn plan_publish<'p>(
     publish: Publish<'p>,
 ) -> Result<Plan, HubRefusal>
     requires { AreCurrent ready.now sessions.old subscriptions.old caches.old }
-    ensures planned { IsPublishPlanned (tables_at ready.now publish.entry.now sessions.old subscriptions.old routes.old.exporters) publish.entry result }
+    ensures planned { IsPublishPlanned
+        (tables_at ready.now publish.entry.now sessions.old subscriptions.old routes.old.exporters) publish.entry result }
     ensures reason { IsPublishReasoned sessions.old publish.entry result }
     ensures sessions { sessions.new ≡ sessions.old }
     ensures subscriptions { subscriptions.new ≡ subscriptions.old }

@@ -1,6 +1,6 @@
 -- A message on its occasion: the tables in which it is addressed, and what it is addressed to
 -- (docs/ARCHITECTURE.md, "Decide, then do").
-use Rattle.std.specs.Prelude.{◌≡◌, ◌++◌, ℕ, Bool, List, [], Option, Some}
+use Rattle.std.specs.Prelude.{ℕ, Bool, List, [], Some}
 use Rattle.subjects.specs.Subject.{Token}
 use Rattle.events.specs.Messages.{Message}
 use Rattle.events.specs.declared.answer.Addressed.{Addressed}
