@@ -37,9 +37,9 @@ use Rattle.world.specs.Granting.{verdict_on, ended_on}
 use Rattle.world.specs.Routing.{view_of, is_admitted, under_subject}
 use Rattle.world.specs.Reload.{stands_on}
 use Rattle.world.specs.Changes.{items_in}
-use Rattle.account_mappings.specs.Drawing.{mapped_by}
-use Rattle.account_mappings.specs.declared.drawing.Mapped.{Mapped}
-use Rattle.account_mappings.specs.declared.drawing.Mapped.TheVariants.{Same, To, Unmapped, TooLong}
+use Rattle.policy_ready.specs.Drawing.{mapped_by}
+use Rattle.policy_ready.specs.Mapped.{Mapped}
+use Rattle.policy_ready.specs.Mapped.TheVariants.{Same, To, Unmapped, TooLong}
 use Rattle.world.specs.Transition.{connected, subscribed, unsubscribed, mapped_to, published, seen_nowhere, seen_as, taken, closed, in_session, in_new_session, moved, numbered}
 use Rattle.hub.specs.Sound.{has_same_sid, is_to_receive}
 use Rattle.hub.specs.History.{IsEntry, IsLegalRun}

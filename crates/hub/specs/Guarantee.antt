@@ -19,9 +19,9 @@ use Rattle.events.specs.declared.event.Command.TheVariants.{Connect, Sub, Unsub,
 use Rattle.events.specs.declared.answer.Delivery.{Delivery}
 use Rattle.events.specs.declared.answer.Item.{Item}
 use Rattle.events.specs.declared.answer.Item.TheVariants.{Entered, Full, RouteFull, MapTooLong, Unmapped as UnmappedItem, MappedTooLong}
-use Rattle.account_mappings.specs.Drawing.{mapped_by}
-use Rattle.account_mappings.specs.declared.drawing.Mapped.{Mapped}
-use Rattle.account_mappings.specs.declared.drawing.Mapped.TheVariants.{Same, To, Unmapped, TooLong}
+use Rattle.policy_ready.specs.Drawing.{mapped_by}
+use Rattle.policy_ready.specs.Mapped.{Mapped}
+use Rattle.policy_ready.specs.Mapped.TheVariants.{Same, To, Unmapped, TooLong}
 use Rattle.events.specs.declared.answer.Outcome.{Outcome}
 use Rattle.events.specs.declared.answer.Outcome.TheVariants.{Connected, AuthViolation, Subscribed, SameSid, SubLimit, Denied, Unsubscribed, Published, Taken, Closed, Reloaded}
 use Rattle.events.specs.declared.answer.Entry.{Entry}
