@@ -1,7 +1,7 @@
 // `natsd compare`: what a change of policy changes (docs/POLICY.md, "Comparing two policies").
 ghost use Rattle.std.specs.Prelude.{◌≤◌};
 
-use crate::notes::{tell_error, write_line};
+use crate::notes::{NO_MEMORY, tell_error, write_line};
 use crate::on_file::open_input;
 use crate::policy_input::PolicyInput;
 use command_line::CompareOptions;
@@ -14,9 +14,6 @@ use std::alloc::{AllocGlobal, Global};
 use std::fs::Files;
 use std::io::Read;
 use tasks::ConfigFault;
-
-/// What is told where memory lacks.
-const NO_MEMORY: &[u8] = b"no memory\n";
 
 /// What is told with lines, so that nobody takes an example for all that changes.
 const EXAMPLES: &[u8] = b"note: each line that gains or loses has one example; there may be more\n";

@@ -2,7 +2,7 @@
 // tenants").
 ghost use Rattle.std.specs.Prelude.{◌≤◌};
 
-use crate::notes::{tell_error, tell_of_text};
+use crate::notes::{NO_MEMORY, tell_error, tell_of_text};
 use crate::on_file::open_input;
 use crate::policy_input::PolicyInput;
 use base::NoMemory;
@@ -117,7 +117,7 @@ fn tell_fault<W: Sink, E: Sink>(alloc: Global, fault: &SplitFault, sink: &mut W,
             tell_error(alloc, path.as_str(), error, errors);
             return;
         }
-        SplitFault::NoMemory => write_all(errors, b"no memory\n"),
+        SplitFault::NoMemory => write_all(errors, NO_MEMORY),
     };
     drop(told);
 }
@@ -129,7 +129,7 @@ fn print_fault<W: Sink, E: Sink>(alloc: Global, fault: &ReloadFault, sink: &mut 
             Ok(()) => return,
             Err(_) => write_all(errors, b"write failed\n"),
         },
-        Err(_) => write_all(errors, b"no memory\n"),
+        Err(_) => write_all(errors, NO_MEMORY),
     };
     drop(told);
 }

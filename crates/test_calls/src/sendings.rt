@@ -1,30 +1,10 @@
-use base::{Shared, SharedBytes, SharedText, count_blanks};
-use events::{Delivery, Message, Names, Said, Sent};
+use base::{Shared, SharedText};
+use events::{Delivery, Names, Said, Sent};
 use session_plan::pending::write_delivery;
 use std::alloc::Global;
 use std::test::Fail;
 use subjects::Subject;
-use wire_message::{MessageText, Span, TextsAt};
-
-/// Returns the message of a text: a subject of so many bytes, blanks, a reply of so many bytes, and a payload.
-fn message(alloc: Global, text: &[u8], subject: usize, reply: usize) -> Option<Message> {
-    if subject > text.len() {
-        return None;
-    }
-    let start = subject.checked_add(count_blanks(&text[subject..]))?;
-    let end = start.checked_add(reply)?;
-    if start >= end || end > text.len() {
-        return None;
-    }
-    let at = TextsAt {
-        subject,
-        reply: Some(Span { start, end }),
-        head: 0,
-        payload: text.len() - end,
-    };
-    let block = SharedBytes::copy_from_slice(alloc, text).ok()?;
-    Message::of(MessageText::new(block, at).ok()?)
-}
+use test_samples::message;
 
 /// What a view's subscribers see as the reply.
 #[derive(Clone, Copy, Debug)]

@@ -71,7 +71,7 @@ pub fn request(alloc: Global, conn: u64, subject: &str, reply: &str) -> Option<C
 }
 
 /// The message of a text: a subject of so many bytes, blanks, a reply of so many bytes, and a payload.
-fn message(alloc: Global, text: &[u8], subject: usize, reply: usize) -> Option<Message> {
+pub fn message(alloc: Global, text: &[u8], subject: usize, reply: usize) -> Option<Message> {
     if subject > text.len() {
         return None;
     }

@@ -5,5 +5,5 @@ mod commands;
 mod policies;
 mod services;
 
-pub use commands::{connect, connect_as, publish, request, sub};
+pub use commands::{connect, connect_as, message, publish, request, sub};
 pub use policies::{Given, ready_of};

@@ -19,6 +19,9 @@ use worker_port::fault::ServeFault;
 /// what finds them. Of two policies 9 and 10 were measured; nothing bounds it for others.
 const MADE_OF_TEXT: usize = 16;
 
+/// The line of a reload for which memory lacks.
+const NO_MEMORY: &[u8] = b"no memory\n";
+
 /// After how long a line that found no room is offered again, in milliseconds.
 const RETRY: u64 = 10;
 
@@ -73,7 +76,7 @@ impl<'a, L: Run, R: Wait + Clock, G: Gate + Drop> Reloads<'a, L, R, G> {
                 NextPolicy::Later => {}
                 NextPolicy::End => return None,
                 NextPolicy::Bad => return Some(ServeFault::BadFrame),
-                NextPolicy::NoMemory => self.say(b"no memory\n"),
+                NextPolicy::NoMemory => self.say(NO_MEMORY),
                 NextPolicy::Refused(line, notes) => {
                     tell_refused(self.rt, self.state.log, line.as_slice(), &notes);
                     self.say(line.as_slice());
@@ -119,7 +122,7 @@ impl<'a, L: Run, R: Wait + Clock, G: Gate + Drop> Reloads<'a, L, R, G> {
                 self.state.log.forget_policy(self.rt);
                 self.say(match refusal {
                     HubRefusal::HistoryFull => b"history full\n".as_slice(),
-                    _ => b"no memory\n".as_slice(),
+                    _ => NO_MEMORY,
                 });
             }
         }
@@ -163,7 +166,7 @@ impl<'a, L: Run, R: Wait + Clock, G: Gate + Drop> Reloads<'a, L, R, G> {
         let mut lines = Vec::new(self.alloc);
         match write_reload(&mut lines, answer.get()) {
             Ok(()) => self.say(lines.as_slice()),
-            Err(_) => self.say(b"no memory\n"),
+            Err(_) => self.say(NO_MEMORY),
         }
     }
 
