@@ -45,7 +45,7 @@ pub struct Found {
 }
 
 /// Returns the line on what a text has that JSON hasn't, if it has something. `NoMemory` where memory could not be had.
-pub fn oddity_line(alloc: Global, text: &[u8]) -> Result<Option<String>, NoMemory> {
+pub(crate) fn oddity_line(alloc: Global, text: &[u8]) -> Result<Option<String>, NoMemory> {
     match first_oddity(text) {
         None => Ok(None),
         Some(found) => {
@@ -58,7 +58,7 @@ pub fn oddity_line(alloc: Global, text: &[u8]) -> Result<Option<String>, NoMemor
 
 /// Returns what a text has first that JSON hasn't, if it has something: a byte order mark, then bytes that aren't
 /// UTF-8, then a word, in texts and comments apart, then what comes first of all else.
-pub fn first_oddity(text: &[u8]) -> Option<Found> {
+pub(crate) fn first_oddity(text: &[u8]) -> Option<Found> {
     if text.starts_with(b"\xef\xbb\xbf") {
         return Some(Found {
             oddity: Oddity::ByteOrderMark,

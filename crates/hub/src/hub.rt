@@ -230,7 +230,9 @@ impl Hub {
         }
     }
 
-    ghost use Rattle.std.specs.Prelude.{[], map, vec_capacity};
+    ghost use Rattle.std.specs.Prelude.{[], IfSome, None, map, true, vec_capacity};
+    ghost use Rattle.world_sessions.specs.deliveries.Replying.{is_granted};
+    ghost use Rattle.world_sessions.specs.deliveries.Sessions.{session_of};
     ghost use Rattle.hub.specs.Run.{IsRun};
     ghost use Rattle.world.specs.Remembering.{IsTrue};
     ghost use Rattle.world.specs.Shown.{standing_of, subscribed_of, waiting_of};
@@ -363,7 +365,10 @@ impl Hub {
 
     /// Why the grant that a connection's session has, or had, for a message's subject allows it no more, where that is
     /// known.
-    pub fn grant_end(&self, conn: u64, message: &Message) -> Option<GrantEnd> {
+    pub fn grant_end(&self, conn: u64, message: &Message) -> Option<GrantEnd>
+        ensures { IfSome (session_of self.now.world.sessions conn)
+            (λ z. is_granted self.now.world.moment message.now.subject z ≡ true → result ≡ None) }
+    {
         self.world.grant_end(conn, message)
     }
 

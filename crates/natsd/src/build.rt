@@ -22,7 +22,7 @@ pub struct Build<'a> {
 
 /// Reads what stands beside the program of how it was built, in a file with its name and `.build`. What is older than
 /// the program says nothing of it.
-pub fn read_build<R: Files + AllocGlobal>(rt: &R) -> io::Result<Vec<u8>> {
+pub(crate) fn read_build<R: Files + AllocGlobal>(rt: &R) -> io::Result<Vec<u8>> {
     let program = env::current_exe(rt)?;
     let path = format!(in rt.alloc(); "{}.build", program.as_str())?;
     let (built, found) = (
@@ -36,7 +36,7 @@ pub fn read_build<R: Files + AllocGlobal>(rt: &R) -> io::Result<Vec<u8>> {
 }
 
 /// Returns how a program was built, by the line of such a file: the commit, a space, and `proved` or `unproved`.
-pub fn build_of(line: &[u8]) -> Option<Build<'_>> {
+pub(crate) fn build_of(line: &[u8]) -> Option<Build<'_>> {
     if let Some(commit) = line.strip_suffix(b" proved\n") {
         return Some(Build {
             commit,

@@ -28,7 +28,11 @@ struct CheckNotes {
 
 /// Tells of the policy that was read where its first fault stands, then each fault, or else what is likely a mistake.
 /// Returns whether a warning was told, or couldn't be found since there was no memory.
-pub fn tell_of_check<R, E: Sink>(alloc: Global, input: &PolicyInput<R>, errors: &mut E) -> bool {
+pub(crate) fn tell_of_check<R, E: Sink>(
+    alloc: Global,
+    input: &PolicyInput<R>,
+    errors: &mut E,
+) -> bool {
     if input.lacks_memory() {
         drop(write_all(errors, NO_MEMORY));
         return true;

@@ -119,7 +119,7 @@ pub fn question_of(task: &Task) -> Option<&Question>
 
 /// Tells of the policy that was read where its fault stands, or else the entry that decides what was asked, and which
 /// keys stand twice in one object.
-pub fn tell_of_text<R, E: Sink>(
+pub(crate) fn tell_of_text<R, E: Sink>(
     alloc: Global,
     asked: Option<&Question>,
     input: &PolicyInput<R>,
@@ -173,7 +173,7 @@ fn place_if(
 }
 
 /// Writes what an operator is told, a line each.
-pub fn write_notes<E: Sink>(alloc: Global, notes: &Notes, errors: &mut E) {
+pub(crate) fn write_notes<E: Sink>(alloc: Global, notes: &Notes, errors: &mut E) {
     for warning in notes.warnings.as_slice() {
         write_line(format!(in alloc; "warning: {warning}\n"), errors);
     }
@@ -183,12 +183,12 @@ pub fn write_notes<E: Sink>(alloc: Global, notes: &Notes, errors: &mut E) {
 }
 
 /// Writes why something couldn't be read.
-pub fn tell_error<E: Sink>(alloc: Global, what: &str, error: &io::Error, errors: &mut E) {
+pub(crate) fn tell_error<E: Sink>(alloc: Global, what: &str, error: &io::Error, errors: &mut E) {
     write_line(format!(in alloc; "{what}: {error}\n"), errors);
 }
 
 /// Writes a line, or that there is no memory for it.
-pub fn write_line<E: Sink>(line: Result<String, AllocError>, errors: &mut E) {
+pub(crate) fn write_line<E: Sink>(line: Result<String, AllocError>, errors: &mut E) {
     let told = match &line {
         Ok(line) => write_all(errors, line.as_str().as_bytes()),
         Err(_) => write_all(errors, NO_MEMORY),

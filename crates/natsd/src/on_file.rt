@@ -12,7 +12,7 @@ use tasks::run_and_tell;
 
 /// Does a task that reads a file, and returns its status. Where the file can't be read, a line on the error sink tells
 /// why, and the status is 1. It is also told there what is to be known of the policy's text.
-pub fn run_on_file<R: Files + AllocGlobal, W: Sink, E: Sink>(
+pub(crate) fn run_on_file<R: Files + AllocGlobal, W: Sink, E: Sink>(
     rt: &R,
     keys: RandomState,
     task: &Task,

@@ -51,7 +51,7 @@ const PERIOD: u64 = 15_000;
 
 /// Returns how often it is told what is counted, and where: by a line, as metrics, or both; nothing where the options ask for
 /// neither.
-pub fn stats_of<'x>(
+pub(crate) fn stats_of<'x>(
     options: &ServeOptions,
     lines: &'x Prints,
     metrics: &'x Prints,

@@ -71,7 +71,7 @@ impl<'a, R: Files + Wait + Clock + AllocGlobal> StatsFile<'a, R> {
 }
 
 /// Writes the metrics to the file that the options name, until they end. It does nothing where they name none.
-pub fn write_metrics<R: Files + Wait + Clock + AllocGlobal>(
+pub(crate) fn write_metrics<R: Files + Wait + Clock + AllocGlobal>(
     rt: &R,
     options: &ServeOptions,
     metrics: &Prints,

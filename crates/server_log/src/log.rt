@@ -185,6 +185,8 @@ fn denied_subscription<'x>(
 }
 
 impl<'a> ServerLog<'a> {
+    ghost use Rattle.std.specs.Prelude.{◌≡◌};
+
     /// Returns the log of a server that tells so much, by these lines.
     pub fn new(alloc: Global, level: LogLevel, prints: &'a Prints) -> ServerLog<'a> {
         ServerLog {
@@ -197,7 +199,9 @@ impl<'a> ServerLog<'a> {
     }
 
     /// Returns how much is told.
-    pub fn level(&self) -> LogLevel {
+    pub fn level(&self) -> LogLevel
+        ensures { result ≡ self.now.level }
+    {
         self.level
     }
 

@@ -51,8 +51,15 @@ impl Drop for Noted {
 }
 
 impl Noted {
+    ghost use Rattle.std.specs.Prelude.{IsTrue, [], false};
+
     /// Returns what a turn has to tell in which nothing has happened. It takes no memory.
-    pub fn new(alloc: Global, level: LogLevel) -> Noted {
+    pub fn new(alloc: Global, level: LogLevel) -> Noted
+        ensures level { result.level ≡ level }
+        ensures answers { result.answers.items ≡ [] }
+        ensures gone { result.is_gone ≡ false }
+        ensures all { result.left_out ≡ 0 }
+    {
         Noted {
             alloc,
             level,
@@ -66,12 +73,20 @@ impl Noted {
 
     /// Returns whether nothing is to be told.
     #[inline(always)]
-    pub fn is_empty(&self) -> bool {
+    pub fn is_empty(&self) -> bool
+        ensures answers { IsTrue result → self.now.answers.items ≡ [] }
+        ensures gone { IsTrue result → self.now.is_gone ≡ false }
+    {
         self.answers.is_empty() && !self.is_gone
     }
 
     /// Takes all out.
-    pub fn take(&mut self) -> Noted {
+    pub fn take(&mut self) -> Noted
+        ensures all { result ≡ self.old }
+        ensures level { self.new.level ≡ self.old.level }
+        ensures none { self.new.answers.items ≡ [] }
+        ensures gone { self.new.is_gone ≡ false }
+    {
         let empty = Noted::new(self.alloc, self.level);
         mem::replace(self, empty)
     }

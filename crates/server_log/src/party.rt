@@ -1,4 +1,7 @@
 // What the log knows of a connection.
+ghost use Rattle.std.specs.Prelude.{◌≡◌, None, Some};
+ghost use Rattle.std.specs.Option.{option_or};
+
 use base::SharedText;
 use bytes::Bytes;
 use log_lines::{Ending, Program, ProgramTexts, Rate, What};
@@ -28,7 +31,12 @@ pub struct Party {
 
 impl Party {
     /// Returns what is known of a connection whose client has said nothing.
-    pub fn new(conn: u64, peer: Option<SocketAddr>) -> Party {
+    pub fn new(conn: u64, peer: Option<SocketAddr>) -> Party
+        ensures conn { result.conn ≡ conn }
+        ensures peer { result.peer ≡ peer }
+        ensures user { result.user ≡ None }
+        ensures why { result.why ≡ None }
+    {
         Party {
             conn,
             peer,
@@ -44,7 +52,9 @@ impl Party {
 
     /// Hears a piece of what its client sends before a CONNECT was accepted: a CONNECT in it says what its program is.
     /// Without memory that isn't known.
-    pub fn hear(&mut self, alloc: Global, piece: &[u8]) {
+    pub fn hear(&mut self, alloc: Global, piece: &[u8])
+        ensures { self.new ≡ record self.old { program = self.new.program; heard = self.new.heard } }
+    {
         if self.program.is_some() {
             return;
         }
@@ -83,7 +93,9 @@ impl Party {
     }
 
     /// Notes why the session ends, unless that is known.
-    pub fn note_ending(&mut self, why: Ending) {
+    pub fn note_ending(&mut self, why: Ending)
+        ensures { self.new ≡ record self.old { why = option_or self.old.why (Some why) } }
+    {
         if self.why.is_none() {
             self.why = Some(why);
         }

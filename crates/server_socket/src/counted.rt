@@ -1,3 +1,5 @@
+ghost use Rattle.std.specs.Prelude.{◌≡◌};
+
 use devices::{DeviceFailed, NonBlockingSource};
 
 /// A source that counts what was read of it.
@@ -9,12 +11,17 @@ pub(crate) struct Counted<R> {
 
 impl<R> Counted<R> {
     /// Returns a source of which nothing was read.
-    pub fn new(reader: R) -> Counted<R> {
+    pub(crate) fn new(reader: R) -> Counted<R>
+        ensures reader { result.reader ≡ reader.entry }
+        ensures count { result.count ≡ 0 }
+    {
         Counted { reader, count: 0 }
     }
 
     /// Returns how many bytes were read of it.
-    pub fn count(&self) -> usize {
+    pub(crate) fn count(&self) -> usize
+        ensures { result ≡ self.now.count }
+    {
         self.count
     }
 }

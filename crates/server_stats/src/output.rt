@@ -42,7 +42,9 @@ impl<'a> Stats<'a> {
     ghost use Rattle.server_stats.specs.Boards.{multiple_after};
 
     /// Returns the stats of a server with so many workers, which have counted nothing.
-    pub fn new(alloc: Global, output: StatsOutput<'a>, workers: usize) -> Stats<'a> {
+    pub fn new(alloc: Global, output: StatsOutput<'a>, workers: usize) -> Stats<'a>
+        ensures { result.output ≡ output.entry }
+    {
         Stats {
             alloc,
             output,
@@ -51,7 +53,9 @@ impl<'a> Stats<'a> {
     }
 
     /// Returns where the workers add up what they count.
-    pub fn board(&self) -> &Board {
+    pub fn board(&self) -> &Board
+        ensures { result.now ≡ self.now.board }
+    {
         &self.board
     }
 

@@ -23,13 +23,20 @@ pub struct Tally {
 }
 
 impl Tally {
-    ghost use Rattle.std.specs.Prelude.{◌+◌, ◌≢◌, ℕ, None, map, nat_eq, not};
+    ghost use Rattle.std.specs.Prelude.{◌+◌, ◌≢◌, ℕ, None, [], map, nat_eq, not};
     ghost use Rattle.std.specs.Io.Iter.{u64_saturate};
     ghost use Rattle.server_stats.specs.Counts.{added, no_counts, no_others, no_turn, of_connection, of_session, of_turn, since_start};
     ghost use Rattle.server_stats.specs.Tallies.{place_of, told_at, IsAdded};
 
     /// Returns the tally of a worker without connections. It counts where `is_on`, and takes no memory.
-    pub fn new(alloc: Global, is_on: bool) -> Tally {
+    pub fn new(alloc: Global, is_on: bool) -> Tally
+        ensures on { not (nat_eq result.due 18446744073709551615) ≡ is_on }
+        ensures rounds { result.rounds ≡ 0 }
+        ensures turn { result.turn ≡ no_turn }
+        ensures places { result.places.items ≡ [] }
+        ensures accounts { result.accounts.items ≡ [] }
+        ensures others { result.others ≡ no_others }
+    {
         Tally {
             alloc,
             due: if is_on { 0 } else { u64::MAX },

@@ -81,7 +81,12 @@ fn refusal(alloc: Global, text: &[u8], fault: &ReloadFault) -> Option<(Vec<u8>, 
 
 /// Tells the server's operator that a policy has a fault, as this line says, where it is, and what else is to be known of the
 /// text.
-pub fn tell_refused<R: Wait + Clock>(rt: &R, log: &ServerLog<'_>, line: &[u8], notes: &Notes) {
+pub(crate) fn tell_refused<R: Wait + Clock>(
+    rt: &R,
+    log: &ServerLog<'_>,
+    line: &[u8],
+    notes: &Notes,
+) {
     let text = line.strip_suffix(b"\n").unwrap_or(line);
     tell_warnings(rt, log, notes);
     match &notes.place {
@@ -98,7 +103,7 @@ pub fn tell_refused<R: Wait + Clock>(rt: &R, log: &ServerLog<'_>, line: &[u8], n
 }
 
 /// Tells the server's operator what is to be known of a policy's text beside its fault.
-pub fn tell_warnings<R: Wait + Clock>(rt: &R, log: &ServerLog<'_>, notes: &Notes) {
+pub(crate) fn tell_warnings<R: Wait + Clock>(rt: &R, log: &ServerLog<'_>, notes: &Notes) {
     for warning in notes.warnings.as_slice() {
         let text = warning.as_str().as_bytes();
         log.tell_or_print(rt, What::PolicyWarning(text), text);

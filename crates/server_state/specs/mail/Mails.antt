@@ -1,5 +1,5 @@
 -- What the mail of a server's workers tells of connections.
-use Rattle.std.specs.Prelude.{ℕ, ◌≡◌, ◌<◌, ◌||◌, ◌&&◌, Bool, true, List, All, length, nat_eq, nat_lt}
+use Rattle.std.specs.Prelude.{ℕ, ◌≡◌, ◌<◌, ◌||◌, ◌&&◌, Bool, true, false, List, [], All, length, nat_eq, nat_lt}
 use Rattle.std.specs.List.{list_any}
 use Rattle.events.specs.declared.answer.Item.{Item}
 use Rattle.events.specs.declared.answer.Item.TheVariants.{Entered, Full, RouteFull, MapTooLong, Unmapped, MappedTooLong}
@@ -26,6 +26,12 @@ drains conn mail = mail.all || list_any (is_drained conn) mail.pending.items
 
 abbrev pub frees : ℕ → Mail → Bool
 frees conn mail = mail.all || list_any (nat_eq conn) mail.freed.items
+
+-- there is nothing to do
+pub record TellsNothing (mail : Mail) : Type 0 where
+  pub pending : mail.pending.items ≡ []
+  pub freed : mail.freed.items ≡ []
+  pub all : mail.all ≡ false
 
 -- some worker's mail tells it of a connection
 abbrev pub is_told : (ℕ → Mail → Bool) → List Mail → ℕ → Bool

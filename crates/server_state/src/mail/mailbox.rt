@@ -56,10 +56,13 @@ pub struct Mailbox {
 
 impl Mail {
     ghost use Rattle.std.specs.Prelude.{◌≡◌, is_some, true};
-    ghost use Rattle.server_state.specs.mail.Mails.{IsMore, IsSaid, frees};
+    ghost use Rattle.std.specs.Prelude.{IsTrue};
+    ghost use Rattle.server_state.specs.mail.Mails.{IsMore, IsSaid, TellsNothing, frees};
 
     /// Returns empty mail. It takes no memory.
-    pub fn new(alloc: Global) -> Mail {
+    pub fn new(alloc: Global) -> Mail
+        ensures { TellsNothing result }
+    {
         Mail {
             pending: Vec::new(alloc),
             freed: Vec::new(alloc),
@@ -105,19 +108,26 @@ impl Mail {
     }
 
     /// Returns whether there is nothing to do.
-    pub(crate) fn is_empty(&self) -> bool {
+    pub(crate) fn is_empty(&self) -> bool
+        ensures { IsTrue result → TellsNothing self.now }
+    {
         self.pending.is_empty() && self.freed.is_empty() && !self.all
     }
 
     /// Adds a copy of other mail. Without memory `all` is set.
-    fn add(&mut self, other: &Mail) {
+    fn add(&mut self, other: &Mail)
+        ensures kept { IsMore self.old self.new }
+        ensures added { IsMore other.now self.new }
+    {
         let pending = self.pending.extend_from_slice(other.pending.as_slice());
         let freed = self.freed.extend_from_slice(other.freed.as_slice());
         self.all = self.all || other.all || pending.is_err() || freed.is_err();
     }
 
     /// Empties the mail, and keeps its memory.
-    pub fn clear(&mut self) {
+    pub fn clear(&mut self)
+        ensures { TellsNothing self.new }
+    {
         self.pending.clear();
         self.freed.clear();
         self.all = false;
@@ -125,9 +135,21 @@ impl Mail {
 }
 
 impl Contents {
+    ghost use Rattle.std.specs.Prelude.{◌≡◌, IsTrue, [], true};
+    ghost use Rattle.server_state.specs.mail.Mails.{TellsNothing};
+
     /// Takes out all, and leaves `spare` for the next mail. A worker with nothing else to do that finds nothing is noted to
     /// sleep.
-    fn take(&mut self, is_idle: bool, spare: Mail) -> Intake {
+    fn take(&mut self, is_idle: bool, spare: Mail) -> Intake
+        ensures arrivals { result.arrivals ≡ self.old.intake.arrivals }
+        ensures mail { result.mail ≡ self.old.intake.mail }
+        ensures slow { result.slow ≡ self.old.intake.slow }
+        ensures reloads { result.reloads ≡ self.old.intake.reloads }
+        ensures left { self.new.intake.mail ≡ spare }
+        ensures sleeps { self.new.intake.sleeps ≡ result.sleeps }
+        ensures idle { IsTrue result.sleeps → is_idle ≡ true }
+        ensures none { IsTrue result.sleeps → TellsNothing self.old.intake.mail × (self.old.intake.arrivals.items ≡ []) }
+    {
         let Intake {
             arrivals,
             mail,

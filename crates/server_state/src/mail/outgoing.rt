@@ -56,7 +56,7 @@ pub fn owner_of(conn: u64, workers: usize) -> usize
 }
 
 impl OutgoingMail {
-    ghost use Rattle.std.specs.Prelude.{◌<◌, All, length, true};
+    ghost use Rattle.std.specs.Prelude.{◌<◌, All, false, get_or, length, slice_set, true};
     ghost use Rattle.server_state.specs.mail.Mails.{AreMore, IsItemTold, IsNoted, IsSaidBySome, awaits, drains, frees, is_told};
 
     /// Returns empty mail for so many workers, which the worker `own` gathers or, with `None`, a thread that is no worker.
@@ -237,17 +237,24 @@ impl OutgoingMail {
     }
 
     /// Returns whether publishers are let on that aren't left in their workers' mailboxes yet.
-    pub fn has_freed(&self) -> bool {
+    pub fn has_freed(&self) -> bool
+        ensures { result ≡ self.now.has_freed }
+    {
         self.has_freed
     }
 
     /// Returns how many deliveries are pending for one connection of another worker, at most.
-    pub fn most(&self) -> usize {
+    pub fn most(&self) -> usize
+        ensures { result ≡ self.now.most }
+    {
         self.most
     }
 
     /// Takes out a worker's mail, and leaves `spare` for the next.
-    pub fn take(&mut self, worker: usize, spare: Mail) -> Mail {
+    pub fn take(&mut self, worker: usize, spare: Mail) -> Mail
+        ensures taken { result ≡ get_or self.old.by_worker.items worker spare }
+        ensures left { self.new.by_worker.items ≡ slice_set self.old.by_worker.items worker spare }
+    {
         match self.by_worker.get_mut(worker) {
             Some(mail) => mem::replace(mail, spare),
             None => spare,
@@ -255,7 +262,10 @@ impl OutgoingMail {
     }
 
     /// Leaves each worker's mail in its mailbox, but that of the worker that gathers it.
-    pub fn leave_others<R: Wait>(&mut self, rt: &R, mailboxes: &[Mailbox]) {
+    pub fn leave_others<R: Wait>(&mut self, rt: &R, mailboxes: &[Mailbox])
+        ensures most { self.new.most ≡ 0 }
+        ensures freed { self.new.has_freed ≡ false }
+    {
         for (worker, mail) in self.by_worker.as_mut_slice().iter_mut().enumerate() {
             if self.own != Some(worker) && !mail.is_empty() {
                 if let Some(mailbox) = mailboxes.get(worker) {

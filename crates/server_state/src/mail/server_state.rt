@@ -80,6 +80,8 @@ impl Flags {
 }
 
 impl<'a> ServerState<'a> {
+    ghost use Rattle.std.specs.Prelude.{◌≡◌, None};
+
     /// Returns the state of a server that begins at the moment `start`.
     pub fn new(
         mailboxes: &'a [Mailbox],
@@ -87,7 +89,14 @@ impl<'a> ServerState<'a> {
         start: u64,
         flags: &'a Flags,
         log: &'a ServerLog<'a>,
-    ) -> ServerState<'a> {
+    ) -> ServerState<'a>
+        ensures mailboxes { result.mailboxes ≡ mailboxes.entry }
+        ensures limits { result.limits ≡ limits }
+        ensures start { result.start ≡ start }
+        ensures flags { result.flags ≡ flags.entry }
+        ensures log { result.log ≡ log.entry }
+        ensures stats { result.stats ≡ None }
+    {
         ServerState {
             mailboxes,
             limits,
@@ -99,12 +108,16 @@ impl<'a> ServerState<'a> {
     }
 
     /// Returns the state of a server whose workers count for its operator, if there are stats.
-    pub fn counting(self, stats: Option<&'a Stats<'a>>) -> ServerState<'a> {
+    pub fn counting(self, stats: Option<&'a Stats<'a>>) -> ServerState<'a>
+        ensures { result ≡ record self.entry { stats = stats.entry } }
+    {
         ServerState { stats, ..self }
     }
 
     /// Returns what the workers count for the server's operator, if they do.
-    pub fn stats(&self) -> Option<&'a Stats<'a>> {
+    pub fn stats(&self) -> Option<&'a Stats<'a>>
+        ensures { result ≡ self.now.stats }
+    {
         self.stats
     }
 
@@ -128,12 +141,16 @@ impl<'a> ServerState<'a> {
     }
 
     /// Returns the lock under which descriptors are opened, so that nobody takes one that another has let go for a moment.
-    pub fn descriptors(&self) -> &Mutex<()> {
+    pub fn descriptors(&self) -> &Mutex<()>
+        ensures { result.now ≡ self.now.flags.now.descriptors }
+    {
         &self.flags.descriptors
     }
 
     /// Returns what is counted of the bytes that the history's entries keep.
-    pub fn kept(&self) -> &'a Kept {
+    pub fn kept(&self) -> &'a Kept
+        ensures { result.now ≡ self.now.flags.now.kept }
+    {
         &self.flags.kept
     }
 
