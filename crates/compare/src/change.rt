@@ -8,28 +8,47 @@ use policy_doc::exports::{Kind, ResponseTerms};
 use policy_doc::permission_doc::{PermEntry, Terms};
 use policy_notes::positions::Place;
 
-/// What two policies have or say differently.
+/// What two policies have or say differently. Each kind is in the order of the names' bytes, by account and then by
+/// user, what is gained first.
+#[derive(Drop)]
+pub struct Changes<'a> {
+    /// Accounts that come or go.
+    pub accounts: Vec<AccountChange<'a>>,
+    /// Users that come, go, move, or change their password.
+    pub users: Vec<UserChange<'a>>,
+    /// What each user that both policies have may do and couldn't, or no longer may.
+    pub lists: Vec<ListChange<'a>>,
+    /// What else changes.
+    pub others: Vec<Change<'a>>,
+}
+
+/// An account that comes or goes.
+#[derive(Clone, Copy)]
+pub struct AccountChange<'a> {
+    pub name: &'a [u8],
+    pub is_new: bool,
+}
+
+/// What becomes of a user. Of one who goes or moves it is the old account.
+#[derive(Clone, Copy)]
+pub struct UserChange<'a> {
+    pub account: &'a [u8],
+    pub user: &'a [u8],
+    pub what: Becoming<'a>,
+}
+
+/// A user comes, goes, has another password, or moves to this account.
+#[derive(Clone, Copy, Debug)]
+pub enum Becoming<'a> {
+    New,
+    Gone,
+    Password,
+    MovedTo(&'a [u8]),
+}
+
+/// What two policies say differently of answers, imports, mappings and closed sets.
 #[derive(Drop)]
 pub enum Change<'a> {
-    /// An account comes or goes.
-    Account {
-        name: &'a [u8],
-        is_new: bool,
-    },
-    /// A user comes, goes, or has another password. Of one who goes it is the old account.
-    User {
-        account: &'a [u8],
-        user: &'a [u8],
-        change: UserChange,
-    },
-    /// A user moves from one account to another.
-    Moved {
-        user: &'a [u8],
-        old: &'a [u8],
-        new: &'a [u8],
-    },
-    /// A user may do what it couldn't, or no longer what it could.
-    List(ListChange<'a>),
     /// A user may answer requests on other terms.
     Answers {
         account: &'a [u8],
@@ -57,14 +76,6 @@ pub enum Change<'a> {
         accounts: Items<Bytes>,
         is_new: bool,
     },
-}
-
-/// What becomes of a user.
-#[derive(Clone, Copy, Debug, PartialEq, Eq)]
-pub enum UserChange {
-    New,
-    Gone,
-    Password,
 }
 
 /// A question that only one of two policies allows a user.

@@ -219,7 +219,6 @@ fn import_of(
 ) -> Result<Option<usize>, NoMemory> {
     let from = carried.from.as_slice();
     let views = file
-        .ready
         .rows()
         .crossings(alloc, from, &carried.from_subject.lend())?;
     for view in views.as_slice() {

@@ -17,7 +17,10 @@ mod services;
 mod sets;
 mod users;
 
-pub use change::{Change, ExchangeChange, Judged, ListChange, ServiceTerms, UserChange};
+pub use change::{
+    AccountChange, Becoming, Change, Changes, ExchangeChange, Judged, ListChange, ServiceTerms,
+    UserChange,
+};
 pub use changes::changes_of;
 pub use mapping_changes::{MappingChange, Share, ShareTo};
 pub use policy_file::PolicyFile;

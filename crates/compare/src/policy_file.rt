@@ -7,24 +7,44 @@ use policy_doc::{Policy, PolicyDoc};
 use policy_notes::paths::entry_path;
 use policy_notes::positions::Place;
 use policy_permissions::Side;
-use policy_ready::CompiledPolicy;
+use policy_ready::imports::Rows;
+use policy_ready::{CompiledPolicy, User};
 use policy_text::reload::{ReloadFault, prepare};
 use policy_walk::{ConfigFault, Path};
 use serde_json::Value;
 use std::alloc::Global;
+use std::marker::Model;
 use std::str;
 
-/// A policy that was read, made ready, with the places of its text.
+/// A policy that was read, made ready, with the places of its text. A clause sees its document.
 #[derive(Drop)]
 pub struct PolicyFile {
-    pub(crate) ready: CompiledPolicy,
+    ready: CompiledPolicy,
     value: Value,
     places: Places,
 }
 
+impl Model for PolicyFile {
+    ghost use Rattle.std.specs.Prelude.{⊤};
+    ghost use Rattle.policy_doc.specs.declared.document.PolicyDoc.{PolicyDoc};
+
+    ghost Value = { PolicyDoc };
+
+    ghost view = { λ f. f.ready };
+
+    ghost invariant = { λ f. ⊤ };
+}
+
 impl PolicyFile {
+    ghost use Rattle.std.specs.Prelude.{◌≡◌, Ok, IfOk};
+    ghost use Rattle.policy_doc.specs.Document.{IsValidPolicy};
+    ghost use Rattle.policy_ready.specs.Users.{users_of};
+    ghost use Rattle.policy_text.specs.reload.Reload.{prepared};
+
     /// Returns the policy of a text, or the text's first fault.
-    pub fn of(alloc: Global, text: &[u8]) -> Result<PolicyFile, ReloadFault> {
+    pub fn of(alloc: Global, text: &[u8]) -> Result<PolicyFile, ReloadFault>
+        ensures { IfOk result (λ file. prepared text.now ≡ Ok file) }
+    {
         let ready = prepare(alloc, text)?;
         match placed(alloc, text) {
             Ok((value, places)) => Ok(PolicyFile {
@@ -37,13 +57,30 @@ impl PolicyFile {
     }
 
     /// Returns the document.
-    pub(crate) fn doc(&self) -> &PolicyDoc {
+    pub(crate) fn doc(&self) -> &PolicyDoc
+        ensures same { result.now ≡ self.now }
+        ensures valid { IsValidPolicy self.now }
+    {
         self.policy().doc()
     }
 
     /// Returns the policy.
-    pub(crate) fn policy(&self) -> &Policy {
+    pub(crate) fn policy(&self) -> &Policy
+        ensures { result.now ≡ self.now }
+    {
         self.ready.policy()
+    }
+
+    /// Returns the users, account by account.
+    pub(crate) fn users(&self) -> &[User]
+        ensures { result.now ≡ users_of self.now }
+    {
+        self.ready.users()
+    }
+
+    /// Returns the import rows.
+    pub(crate) fn rows(&self) -> &Rows {
+        self.ready.rows()
     }
 
     /// Returns where the entry stands that a verdict names, on a user who is this one of an account's, if it names

@@ -1,96 +1,150 @@
 //! Users that come, go, move, or change their password.
+ghost use Rattle.std.specs.Prelude.{◌≡◌, IfOk, OnOk, None, map, true};
+ghost use Rattle.std.specs.List.{list_any};
+ghost use Rattle.policy_doc.specs.declared.document.PolicyDoc.{PolicyDoc};
+ghost use Rattle.policy_ready.specs.Users.{user_named};
+ghost use Rattle.compare.specs.Members.{user_of, AreMembers};
+ghost use Rattle.compare.specs.Users.{says_gone, says_new, AreComing, AreGone, AreUsersTold, IsMore};
+
 use crate::members::{Member, Members};
-use crate::{Change, UserChange};
+use crate::{Becoming, UserChange};
 use base::NoMemory;
 use std::alloc::Global;
 use std::cmp::Ordering;
 
-/// What becomes of a user, under the account and the name by which it is told.
-#[derive(Clone, Copy)]
-struct Told<'a> {
-    account: &'a [u8],
-    user: &'a [u8],
-    what: What<'a>,
-}
-
-#[derive(Clone, Copy)]
-enum What<'a> {
-    MovedTo(&'a [u8]),
-    Is(UserChange),
-}
-
-/// Appends what becomes of users.
-pub(crate) fn add_users<'a>(
+/// Returns what becomes of users.
+pub(crate) fn users_between<'a>(
     alloc: Global,
-    changes: &mut Vec<Change<'a>>,
     old: &Members<'a>,
     new: &Members<'a>,
-) -> Result<(), NoMemory> {
+) -> Result<Vec<UserChange<'a>>, NoMemory>
+    ensures { IfOk result (λ told. (was is : PolicyDoc) → AreMembers was old.now → AreMembers is new.now → AreUsersTold was is told.items) }
+{
     let mut told = Vec::new(alloc);
-    for member in old.by_account.as_slice() {
-        match new.named(member.user.user.as_slice()) {
-            None => told.push(told_as(member, UserChange::Gone))?,
-            Some(again) => add_again(&mut told, member, &again)?,
-        }
-    }
-    for member in new.by_account.as_slice() {
-        if old.named(member.user.user.as_slice()).is_none() {
-            told.push(told_as(member, UserChange::New))?;
-        }
-    }
+    let (olds, news) = (old.by_account.as_slice(), new.by_account.as_slice());
+    add_olds(&mut told, olds, new)?;
+    add_news(&mut told, news, old)?;
     told.sort_unstable_by(|one, other| order_of(one, other));
-    for one in told.as_slice() {
-        changes.push(change_of(one))?;
+    Ok(told)
+}
+
+/// Appends what becomes of the users that the old policy has.
+fn add_olds<'a>(
+    told: &mut Vec<UserChange<'a>>,
+    members: &[Member<'a>],
+    new: &Members<'a>,
+) -> Result<(), NoMemory>
+    ensures { OnOk result ((is : PolicyDoc) → AreMembers is new.now → AreGone is (map user_of members.now) told.new.items) }
+{
+    for member in members {
+        add_old(told, member, new)?;
     }
     Ok(())
+}
+
+/// Appends the users that come.
+fn add_news<'a>(
+    told: &mut Vec<UserChange<'a>>,
+    members: &[Member<'a>],
+    old: &Members<'a>,
+) -> Result<(), NoMemory>
+    ensures more { OnOk result (IsMore told.old.items told.new.items) }
+    ensures come { OnOk result ((was : PolicyDoc) → AreMembers was old.now → AreComing was (map user_of members.now) told.new.items) }
+{
+    for member in members {
+        add_new(told, member, old)?;
+    }
+    Ok(())
+}
+
+/// Appends that a user goes, or what becomes of it.
+fn add_old<'a>(
+    told: &mut Vec<UserChange<'a>>,
+    member: &Member<'a>,
+    new: &Members<'a>,
+) -> Result<(), NoMemory>
+    ensures more { OnOk result (IsMore told.old.items told.new.items) }
+    ensures gone { OnOk result ((is : PolicyDoc) → AreMembers is new.now → user_named is (user_of member.now).user ≡ None → list_any (says_gone (user_of member.now)) told.new.items ≡ true) }
+{
+    let name = member.user.user.as_slice();
+    match new.named(name) {
+        None => {
+            told.push(told_as(member, Becoming::Gone))?;
+            Ok(())
+        }
+        Some(again) => {
+            add_again(told, member, &again)?;
+            Ok(())
+        }
+    }
+}
+
+/// Appends that a user comes, if it does.
+fn add_new<'a>(
+    told: &mut Vec<UserChange<'a>>,
+    member: &Member<'a>,
+    old: &Members<'a>,
+) -> Result<(), NoMemory>
+    ensures more { OnOk result (IsMore told.old.items told.new.items) }
+    ensures come { OnOk result ((was : PolicyDoc) → AreMembers was old.now → user_named was (user_of member.now).user ≡ None → list_any (says_new (user_of member.now)) told.new.items ≡ true) }
+{
+    let name = member.user.user.as_slice();
+    match old.named(name) {
+        None => {
+            told.push(told_as(member, Becoming::New))?;
+            Ok(())
+        }
+        Some(_) => Ok(()),
+    }
 }
 
 /// Appends that a user moves, and that it has another password, where that is so.
 fn add_again<'a>(
-    told: &mut Vec<Told<'a>>,
+    told: &mut Vec<UserChange<'a>>,
     old: &Member<'a>,
     new: &Member<'a>,
-) -> Result<(), NoMemory> {
-    if old.user.account != new.user.account {
-        told.push(Told {
-            account: old.user.account.as_slice(),
-            user: old.user.user.as_slice(),
-            what: What::MovedTo(new.user.account.as_slice()),
-        })?;
-    }
-    if old.user.password != new.user.password {
-        told.push(told_as(new, UserChange::Password))?;
+) -> Result<(), NoMemory>
+    ensures { OnOk result (IsMore told.old.items told.new.items) }
+{
+    let has_moved = old.user.account != new.user.account;
+    let to = Becoming::MovedTo(new.user.account.as_slice());
+    add_if(told, has_moved, told_as(old, to))?;
+    let has_another = old.user.password != new.user.password;
+    add_if(told, has_another, told_as(new, Becoming::Password))?;
+    Ok(())
+}
+
+/// Appends what becomes of a user, if it is so.
+fn add_if<'a>(
+    told: &mut Vec<UserChange<'a>>,
+    is_so: bool,
+    change: UserChange<'a>,
+) -> Result<(), NoMemory>
+    ensures { OnOk result (IsMore told.old.items told.new.items) }
+{
+    if is_so {
+        told.push(change)?;
+        return Ok(());
     }
     Ok(())
 }
 
-fn told_as<'a>(member: &Member<'a>, change: UserChange) -> Told<'a> {
-    Told {
+fn told_as<'a>(member: &Member<'a>, what: Becoming<'a>) -> UserChange<'a>
+    ensures what { result.what ≡ what.entry }
+    ensures account { result.account.now ≡ (user_of member.now).account }
+    ensures user { result.user.now ≡ (user_of member.now).user }
+{
+    UserChange {
         account: member.user.account.as_slice(),
         user: member.user.user.as_slice(),
-        what: What::Is(change),
+        what,
     }
 }
 
 /// Which comes first, by account and then by name. No two have both alike.
-fn order_of(one: &Told<'_>, other: &Told<'_>) -> Ordering {
+fn order_of(one: &UserChange<'_>, other: &UserChange<'_>) -> Ordering {
     match one.account.cmp(other.account) {
         Ordering::Equal => one.user.cmp(other.user),
         order => order,
-    }
-}
-
-fn change_of<'a>(told: &Told<'a>) -> Change<'a> {
-    match told.what {
-        What::MovedTo(new) => Change::Moved {
-            user: told.user,
-            old: told.account,
-            new,
-        },
-        What::Is(change) => Change::User {
-            account: told.account,
-            user: told.user,
-            change,
-        },
     }
 }

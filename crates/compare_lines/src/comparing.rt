@@ -44,9 +44,9 @@ pub fn lines_between(
     };
     let changes = changes_of(alloc, &old, &new)?;
     let lines = if json {
-        json_of(alloc, changes.as_slice())?
+        json_of(alloc, &changes)?
     } else {
-        text_of(alloc, changes.as_slice())?
+        text_of(alloc, &changes)?
     };
     Ok(lines)
 }

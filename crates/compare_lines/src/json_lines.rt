@@ -6,7 +6,8 @@ use crate::words::{
 use base::{Items, NoMemory};
 use bytes::Bytes;
 use compare::{
-    Change, ExchangeChange, Judged, ListChange, MappingChange, ServiceTerms, Share, ShareTo,
+    AccountChange, Becoming, Change, Changes, ExchangeChange, Judged, ListChange, MappingChange,
+    ServiceTerms, Share, ShareTo, UserChange,
 };
 use json::Writer;
 use permissions::{By, Verdict};
@@ -17,36 +18,73 @@ use std::alloc::Global;
 /// Returns a JSON object for each change, each with its LF. Its first members are the words of the change's text,
 /// `change` and `what`; then come the names, and `old` and `new`, what the two policies say, where both say
 /// something. `NoMemory` where memory could not be had.
-pub fn json_of(alloc: Global, changes: &[Change<'_>]) -> Result<Vec<u8>, NoMemory> {
+pub fn json_of(alloc: Global, changes: &Changes<'_>) -> Result<Vec<u8>, NoMemory> {
     let mut lines = Vec::new(alloc);
-    for change in changes {
-        let mut out = Writer::new(Vec::new(alloc));
-        out.begin_object()?;
+    for change in changes.accounts.as_slice() {
+        let mut out = begun(alloc)?;
+        put_account(alloc, &mut out, *change)?;
+        end_line(&mut lines, out)?;
+    }
+    for change in changes.users.as_slice() {
+        let mut out = begun(alloc)?;
+        put_user_change(alloc, &mut out, *change)?;
+        end_line(&mut lines, out)?;
+    }
+    for change in changes.lists.as_slice() {
+        let mut out = begun(alloc)?;
+        put_list(alloc, &mut out, change)?;
+        end_line(&mut lines, out)?;
+    }
+    for change in changes.others.as_slice() {
+        let mut out = begun(alloc)?;
         put_change(alloc, &mut out, change)?;
-        out.end_object()?;
-        lines.extend_from_slice(out.into_inner().as_slice())?;
-        lines.push(b'\n')?;
+        end_line(&mut lines, out)?;
     }
     Ok(lines)
+}
+
+/// Returns an object that has no member yet.
+fn begun(alloc: Global) -> Result<Writer, NoMemory> {
+    let mut out = Writer::new(Vec::new(alloc));
+    out.begin_object()?;
+    Ok(out)
+}
+
+/// Ends an object and appends it with its LF.
+fn end_line(lines: &mut Vec<u8>, object: Writer) -> Result<(), NoMemory> {
+    let mut out = object;
+    out.end_object()?;
+    lines.extend_from_slice(out.into_inner().as_slice())?;
+    lines.push(b'\n')?;
+    Ok(())
+}
+
+/// Appends the members of an account that comes or goes.
+fn put_account(alloc: Global, out: &mut Writer, change: AccountChange<'_>) -> Result<(), NoMemory> {
+    put_head(out, coming_word(change.is_new), "account")?;
+    put_text(alloc, out, "account", change.name)
+}
+
+/// Appends the members of what becomes of a user.
+fn put_user_change(
+    alloc: Global,
+    out: &mut Writer,
+    change: UserChange<'_>,
+) -> Result<(), NoMemory> {
+    put_head(out, user_word(change.what), "user")?;
+    match change.what {
+        Becoming::MovedTo(new) => {
+            put_text(alloc, out, "user", change.user)?;
+            put_text(alloc, out, "old", change.account)?;
+            put_text(alloc, out, "new", new)
+        }
+        _ => put_user(alloc, out, change.account, change.user),
+    }
 }
 
 /// Appends the members of a change.
 fn put_change(alloc: Global, out: &mut Writer, change: &Change<'_>) -> Result<(), NoMemory> {
     match change {
-        Change::Account { name, is_new } => {
-            put_head(out, coming_word(*is_new), "account")?;
-            put_text(alloc, out, "account", name)
-        }
-        Change::User {
-            account,
-            user,
-            change,
-        } => {
-            put_head(out, user_word(*change), "user")?;
-            put_user(alloc, out, account, user)
-        }
-        Change::Moved { user, old, new } => put_moved(alloc, out, user, old, new),
-        Change::List(change) => put_list(alloc, out, change),
         Change::Answers {
             account,
             user,
@@ -66,20 +104,6 @@ fn put_change(alloc: Global, out: &mut Writer, change: &Change<'_>) -> Result<()
             put_accounts(alloc, out, accounts)
         }
     }
-}
-
-/// Appends a user that moves from one account to another.
-fn put_moved(
-    alloc: Global,
-    out: &mut Writer,
-    user: &[u8],
-    old: &[u8],
-    new: &[u8],
-) -> Result<(), NoMemory> {
-    put_head(out, "moved", "user")?;
-    put_text(alloc, out, "user", user)?;
-    put_text(alloc, out, "old", old)?;
-    put_text(alloc, out, "new", new)
 }
 
 /// Appends the terms on which a user of an account answered requests, and those on which it may.

@@ -3,7 +3,8 @@ use crate::words::{coming_word, gain_word, import_word, kind_word, response_word
 use base::{Items, NoMemory};
 use bytes::Bytes;
 use compare::{
-    Change, ExchangeChange, Judged, ListChange, MappingChange, ServiceTerms, Share, ShareTo,
+    AccountChange, Becoming, Change, Changes, ExchangeChange, Judged, ListChange, MappingChange,
+    ServiceTerms, Share, ShareTo, UserChange,
 };
 use explain::write_verdict;
 use itoa::Buffer;
@@ -15,35 +16,50 @@ use std::alloc::Global;
 /// Returns a line for each change, each with its LF: what changes, and behind a TAB each what the old policy says and
 /// what the new one says, where both say something. Names and tokens stand as they are where they have visible ASCII
 /// but quotes and `\` alone, and else as JSON writes them. `NoMemory` where memory could not be had.
-pub fn text_of(alloc: Global, changes: &[Change<'_>]) -> Result<Vec<u8>, NoMemory> {
+pub fn text_of(alloc: Global, changes: &Changes<'_>) -> Result<Vec<u8>, NoMemory> {
     let mut out = Vec::new(alloc);
-    for change in changes {
+    for change in changes.accounts.as_slice() {
+        write_account(alloc, &mut out, *change)?;
+    }
+    for change in changes.users.as_slice() {
+        write_user(alloc, &mut out, *change)?;
+    }
+    for change in changes.lists.as_slice() {
+        write_list(alloc, &mut out, change)?;
+    }
+    for change in changes.others.as_slice() {
         write_change(alloc, &mut out, change)?;
         out.push(b'\n')?;
     }
     Ok(out)
 }
 
-/// Appends the line of a change.
+/// Appends the line of an account.
+fn write_account(
+    alloc: Global,
+    out: &mut Vec<u8>,
+    change: AccountChange<'_>,
+) -> Result<(), NoMemory> {
+    write_words(out, &["account", coming_word(change.is_new)])?;
+    write_name(alloc, out, change.name)?;
+    out.push(b'\n')?;
+    Ok(())
+}
+
+/// Appends the line of what becomes of a user.
+fn write_user(alloc: Global, out: &mut Vec<u8>, change: UserChange<'_>) -> Result<(), NoMemory> {
+    write_words(out, &["user", user_word(change.what)])?;
+    match change.what {
+        Becoming::MovedTo(new) => write_names(alloc, out, &[change.user, change.account, new])?,
+        _ => write_names(alloc, out, &[change.account, change.user])?,
+    }
+    out.push(b'\n')?;
+    Ok(())
+}
+
+/// Appends the words of a change.
 fn write_change(alloc: Global, out: &mut Vec<u8>, change: &Change<'_>) -> Result<(), NoMemory> {
     match change {
-        Change::Account { name, is_new } => {
-            write_words(out, &["account", coming_word(*is_new)])?;
-            write_names(alloc, out, &[name])
-        }
-        Change::User {
-            account,
-            user,
-            change,
-        } => {
-            write_words(out, &["user", user_word(*change)])?;
-            write_names(alloc, out, &[account, user])
-        }
-        Change::Moved { user, old, new } => {
-            write_words(out, &["user", "moved"])?;
-            write_names(alloc, out, &[user, old, new])
-        }
-        Change::List(change) => write_list(alloc, out, change),
         Change::Answers {
             account,
             user,
@@ -109,7 +125,7 @@ fn write_mapping(
     write_shares(alloc, out, change.new.as_slice())
 }
 
-/// Appends what a user gains or loses.
+/// Appends the line of what a user gains or loses.
 fn write_list(alloc: Global, out: &mut Vec<u8>, change: &ListChange<'_>) -> Result<(), NoMemory> {
     write_words(out, &[gain_word(change.is_gain), kind_word(change.kind)])?;
     write_names(alloc, out, &[change.account, change.user])?;
@@ -118,7 +134,9 @@ fn write_list(alloc: Global, out: &mut Vec<u8>, change: &ListChange<'_>) -> Resu
         write_name(alloc, out, queue.bytes())?;
     }
     write_judged(alloc, out, &change.old)?;
-    write_judged(alloc, out, &change.new)
+    write_judged(alloc, out, &change.new)?;
+    out.push(b'\n')?;
+    Ok(())
 }
 
 /// Appends a TAB and a verdict, with the entry that it names and its place.

@@ -1,15 +1,16 @@
 //! The words of a change that its text and its JSON object share.
-use compare::UserChange;
+use compare::Becoming;
 use message_changes::MessageKind;
 use permissions::Verdict;
 use policy_doc::exports::Kind;
 
 /// Returns what becomes of a user.
-pub(crate) fn user_word(change: UserChange) -> &'static str {
-    match change {
-        UserChange::New => "new",
-        UserChange::Gone => "gone",
-        UserChange::Password => "password",
+pub(crate) fn user_word(what: Becoming<'_>) -> &'static str {
+    match what {
+        Becoming::New => "new",
+        Becoming::Gone => "gone",
+        Becoming::Password => "password",
+        Becoming::MovedTo(_) => "moved",
     }
 }
 

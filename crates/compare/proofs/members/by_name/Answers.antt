@@ -1,0 +1,15 @@
+-- the closure compares the names of two users
+use Rattle.std.proofs.Common.{rules}
+use Rattle.std.specs.Ordering.{is_lt, nat_cmp}
+use Rattle.std.specs.Cmp.Lexicographic.{slice_cmp}
+use Rattle.std.proofs.lemmas.Cmp.{nat_list_cmp_total}
+use Rattle.std.proofs.lemmas.Fn.{always_returns_same}
+use Rattle.std.proofs.lemmas.List.Sorted.{ranks_by}
+use Rattle.compare.specs.Members.{name_of}
+use Rattle.compare.specs.declared.members.Member.{Member}
+use Rattle.compare.proofs.members.by_name.Goals as goal
+
+pub returns-clause-sorted : goal.returns-clause-sorted
+returns-clause-sorted c =
+    c.sort_unstable_by.ensures.sorted (λ (x y : Member). is_lt (slice_cmp nat_cmp (name_of x) (name_of y))) (ranks_by nat_list_cmp_total name_of)
+    (always_returns_same _ _ _ (λ a r f' called. search rules))
