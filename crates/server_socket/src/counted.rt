@@ -12,7 +12,7 @@ pub(crate) struct Counted<R> {
 impl<R> Counted<R> {
     /// Returns a source of which nothing was read.
     pub(crate) fn new(reader: R) -> Counted<R>
-        ensures reader { result.reader ≡ reader.entry }
+        ensures reader { result.reader ≡ reader }
         ensures count { result.count ≡ 0 }
     {
         Counted { reader, count: 0 }

@@ -15,7 +15,7 @@ pub(crate) struct Heard<'a, W> {
 impl<'a, W> Heard<'a, W> {
     /// Returns a sink that adds errors to those. `is_rest` is whether the rest of a text comes first.
     pub(crate) fn new(writer: W, is_rest: bool, errors: &'a mut Vec<u8>) -> Heard<'a, W>
-        ensures writer { result.writer ≡ writer.entry }
+        ensures writer { result.writer ≡ writer }
         ensures rest { result.is_rest ≡ is_rest }
     {
         Heard {
