@@ -1,2 +1,2 @@
-mod Batches
 mod Posted
+mod Elements

@@ -2,6 +2,7 @@ ghost use Rattle.std.specs.Prelude.{◌≡◌, IfOk};
 
 use crate::event::Event;
 use crate::sent::Sent;
+use crate::waiting::Waiting;
 use base::{Boxed, Copying, Items, NoMemory, Shared};
 use messages::Sid;
 use permissions::{By, Verdict};
@@ -10,7 +11,7 @@ use reply_grants::Note;
 use std::alloc::Global;
 use std::marker::Model;
 use std::slice;
-use stores::outbox::{Batch, Several};
+use stores::outbox::Batch;
 use subjects::{Pattern, Subject};
 
 /// A message on its way to one subscription. All deliveries of a message share it.
@@ -36,37 +37,6 @@ impl Copying for Delivery {
             sid: self.sid.again()?,
         })
     }
-}
-
-/// What waits as one element is one delivery.
-impl Several for Delivery {
-    ghost use Rattle.std.specs.Prelude.{◌∷◌, []};
-
-    type Item = Delivery;
-
-    ghost each = { λ d. d ∷ [] };
-
-    fn one(item: Delivery) -> Delivery {
-        item
-    }
-
-    fn count(&self) -> usize {
-        1
-    }
-
-    fn first_part(&self, alloc: Global, _count: usize) -> Result<Delivery, NoMemory> {
-        self.copy(alloc)
-    }
-
-    fn leave_out(&mut self, _count: usize) {}
-}
-
-/// Returns the deliveries of a batch, oldest first.
-#[tactic(auto, using(crate::proofs::Batches::each_alone))]
-pub fn deliveries_in(batch: &Batch<Delivery>) -> &[Delivery]
-    ensures { result.now ≡ batch.now }
-{
-    batch.as_slice()
 }
 
 /// A delivery, and the subscription that it is for.
@@ -212,7 +182,7 @@ pub enum Outcome {
     /// The message is accepted by this rule, and met these subscriptions, oldest first.
     Published(By, Met),
     /// These deliveries left the outbox, and whether a full outbox has lost one since the Connect or last Take.
-    Taken(Batch<Delivery>, bool),
+    Taken(Batch<Waiting>, bool),
     /// The subscription of that id, if one stood, has ended or has its limit.
     Unsubscribed,
     /// The session is gone.

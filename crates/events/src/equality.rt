@@ -3,9 +3,8 @@ ghost use Rattle.std.specs.Prelude.{◌≡◌};
 ghost use Rattle.std.specs.Bool.{Decides};
 ghost use Rattle.events.specs.declared.event.Command.TheVariants.{Connect, Sub, Unsub, Pub, Take, Close, Reload};
 
-use crate::{
-    Command, Delivery, Entry, Event, Item, Message, Met, Outcome, Removed, Sent, deliveries_in,
-};
+use crate::waiting::are_same_deliveries;
+use crate::{Command, Delivery, Entry, Event, Item, Message, Met, Outcome, Removed, Sent, Waiting};
 use base::{Alike, Items, Shared, SharedText, are_alike, are_same_bytes};
 use policy_ready::CompiledPolicy;
 use stores::outbox::Batch;
@@ -30,13 +29,6 @@ impl Alike for Delivery {
     fn is_like(&self, other: &Delivery) -> bool {
         self.message.is_like(&other.message) && self.sid.is_like(&other.sid)
     }
-}
-
-/// Whether two batches have the same deliveries in the same order.
-pub fn are_same_deliveries(one: &Batch<Delivery>, other: &Batch<Delivery>) -> bool
-    ensures { Decides result (one.now ≡ other.now) }
-{
-    are_alike(deliveries_in(one), deliveries_in(other))
 }
 
 impl Alike for Item {

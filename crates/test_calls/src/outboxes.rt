@@ -1,4 +1,4 @@
-use base::{Copying, NoMemory};
+use base::NoMemory;
 use std::alloc::Global;
 use std::test::Fail;
 use stores::outbox::{Outbox, Several};
@@ -6,12 +6,6 @@ use stores::outbox::{Outbox, Several};
 /// An element that is told by its number.
 #[derive(Debug, Drop, PartialEq)]
 struct Numbered(u8);
-
-impl Copying for Numbered {
-    fn copy(&self, _alloc: Global) -> Result<Numbered, NoMemory> {
-        Ok(Numbered(self.0))
-    }
-}
 
 impl Several for Numbered {
     ghost use Rattle.std.specs.Prelude.{◌∷◌, []};
@@ -28,8 +22,8 @@ impl Several for Numbered {
         1
     }
 
-    fn first_part(&self, alloc: Global, _count: usize) -> Result<Numbered, NoMemory> {
-        self.copy(alloc)
+    fn first_part(&self, _alloc: Global, _count: usize) -> Result<Numbered, NoMemory> {
+        Ok(Numbered(self.0))
     }
 
     fn leave_out(&mut self, _count: usize) {}
@@ -65,15 +59,6 @@ enum Row {
     Two(u8, u8),
 }
 
-impl Copying for Row {
-    fn copy(&self, _alloc: Global) -> Result<Row, NoMemory> {
-        match self {
-            Row::One(first) => Ok(Row::One(*first)),
-            Row::Two(first, last) => Ok(Row::Two(*first, *last)),
-        }
-    }
-}
-
 impl Several for Row {
     ghost use Rattle.std.specs.Prelude.{◌∷◌, []};
     ghost use Rattle.test_calls.specs.declared.outboxes.Row.TheVariants.{One, Two};
@@ -93,10 +78,10 @@ impl Several for Row {
         }
     }
 
-    fn first_part(&self, alloc: Global, count: usize) -> Result<Row, NoMemory> {
+    fn first_part(&self, _alloc: Global, count: usize) -> Result<Row, NoMemory> {
         match self {
-            Row::Two(first, _) if count == 1 => Ok(Row::One(*first)),
-            row => row.copy(alloc),
+            Row::Two(first, last) if count == 2 => Ok(Row::Two(*first, *last)),
+            Row::One(first) | Row::Two(first, _) => Ok(Row::One(*first)),
         }
     }
 

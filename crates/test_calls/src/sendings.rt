@@ -1,5 +1,5 @@
 use base::{Shared, SharedText};
-use events::{Delivery, Names, Said, Sent};
+use events::{Delivery, DeliveryRef, Names, Said, Sent};
 use session_plan::pending::write_delivery;
 use std::alloc::Global;
 use std::test::Fail;
@@ -43,7 +43,7 @@ fn text_of(alloc: Global, names: Option<(&str, Reply)>) -> Option<Vec<u8>> {
         sid: SharedText::of(alloc, "7".as_bytes()).ok()?,
     };
     let mut out = Vec::new(alloc);
-    write_delivery(&mut out, true, &delivery).ok()?;
+    write_delivery(&mut out, true, &DeliveryRef::of(&delivery)).ok()?;
     Some(out)
 }
 

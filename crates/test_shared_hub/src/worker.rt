@@ -1,6 +1,6 @@
 //! What the threads of the tests do.
 use crate::services::{chat, make_requests, serve};
-use events::{Command, Delivery, Entry, Event, HubRefusal, Outcome, Port};
+use events::{Command, Entry, Event, HubRefusal, Outcome, Port, Waiting};
 use policy_ready::CompiledPolicy;
 use shared_hub::{Receipt, Run, Seat, Segment, SharedHub, SharedPort};
 use std::alloc::Global;
@@ -343,9 +343,9 @@ fn said_of(entry: &Entry, payload: &str) -> Said {
 }
 
 /// Whether it is one delivery, with this payload.
-fn is_one(deliveries: &[Delivery], payload: &str) -> bool {
+fn is_one(deliveries: &[Waiting], payload: &str) -> bool {
     match deliveries {
-        [one] => one.message.payload() == payload.as_bytes(),
+        [Waiting::One(one)] => one.message.payload() == payload.as_bytes(),
         _ => false,
     }
 }

@@ -1,1 +1,3 @@
+pub mod PartLemmas
+mod RunLemmas
 pub mod StoredLemmas

@@ -4,7 +4,9 @@
 
 mod message;
 mod places;
+mod run;
 mod sizes;
 
 pub use message::MessageText;
 pub use places::{Span, TextsAt};
+pub use run::{Spot, TextRun};

@@ -9,4 +9,4 @@ mod message;
 mod number;
 
 pub use error::{ServerError, write_err};
-pub use message::{write_hmsg, write_info, write_msg, write_msg_apart, write_ok, write_pong};
+pub use message::{write_hmsg, write_info, write_msg, write_ok, write_pong};

@@ -175,23 +175,6 @@ pub fn write_msg(
     }
 }
 
-/// Appends a delivery as `write_msg` does. It is apart, for deliveries that are few, so that `write_msg` is drawn in where most are
-/// written.
-#[inline(never)]
-pub fn write_msg_apart(
-    out: &mut Vec<u8>,
-    subject: &[u8],
-    sid: &[u8],
-    reply: Option<&[u8]>,
-    payload: &[u8],
-) -> Result<(), NoMemory>
-    ensures ok { OnOk result (out.new.items ≡ out.old.items ++ msg_line subject.now sid.now (option_copied reply.entry) payload.now) }
-    ensures err { OnErr result (out.new.items ≡ out.old.items) }
-    ensures full { OnErr result (vec_capacity out.old < vec_len out.old + length (msg_line subject.now sid.now (option_copied reply.entry) payload.now)) }
-{
-    write_addressed(out, subject, sid, reply, payload)
-}
-
 /// Appends a delivery with a header block: the HMSG line with the size in bytes of the block, and that of
 /// the block and the payload, then both.
 /// `NoMemory` comes only where the buffer has no room for it and can't grow, and leaves it as it was.

@@ -2,7 +2,7 @@ use crate::deliveries::{ByConnection, place_in, plan_all, plan_one};
 use crate::same_lists::same_lists;
 use crate::{Session, renewal};
 use base::NoMemory;
-use events::{Addressed, Delivery, Met};
+use events::{Addressed, Met, Waiting};
 use policy_ready::{CompiledPolicy, User};
 use std::alloc::Global;
 use std::collections::VecDeque;
@@ -228,7 +228,7 @@ impl Sessions {
     /// there. Without a session there are none. `NoMemory` where memory could not be had. Apart, so that a publish doesn't need its
     /// locals.
     #[inline(never)]
-    pub fn share(&mut self, conn: u64, most: usize) -> Result<Batch<Delivery>, NoMemory>
+    pub fn share(&mut self, conn: u64, most: usize) -> Result<Batch<Waiting>, NoMemory>
         ensures front { IfOk result (λ front. front ≡ front_of most (session_of self.old conn)) }
         ensures same { self.new ≡ self.old }
     {

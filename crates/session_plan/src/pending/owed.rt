@@ -1,8 +1,8 @@
 // What a Take gave and is not written yet.
-ghost use Rattle.std.specs.Prelude.{◌≡◌};
+ghost use Rattle.std.specs.Prelude.{◌≡◌, [], MatchOption, length};
 ghost use Rattle.session_plan.specs.pending.Owing.{deliveries_of, missed_in};
 
-use events::{Answer, Delivery, Outcome, deliveries_in};
+use events::{Answer, Batch, Deliveries, Outcome, Waiting};
 use std::alloc::Global;
 use std::marker::Model;
 
@@ -36,7 +36,7 @@ impl Model for Owed {
 }
 
 impl Owed {
-    ghost use Rattle.std.specs.Prelude.{◌≡◌, ◌∷◌, [], drop, MatchOption};
+    ghost use Rattle.std.specs.Prelude.{◌≡◌, drop, length};
     ghost use Rattle.session_plan.specs.pending.Owing.{owing_nothing, owed_by};
 
     /// Nothing.
@@ -72,12 +72,23 @@ impl Owed {
     }
 
     /// The deliveries that are not written yet, oldest first.
-    #[tactic(auto, using(std::proofs::lemmas::List::drop_min))]
-    pub fn deliveries(&self) -> &[Delivery]
-        ensures { result.now ≡ self.now.deliveries }
+    pub fn deliveries(&self) -> Deliveries<'_>
+        ensures { result ≡ self.now.deliveries }
     {
-        let all = deliveries_of(&self.answer);
-        &all[self.written.min(all.len())..]
+        match batch_of(&self.answer) {
+            None => Deliveries::none(),
+            Some(batch) => Deliveries::after(batch, self.written),
+        }
+    }
+
+    /// How many of them there are.
+    pub fn len(&self) -> usize
+        ensures { result ≡ length self.now.deliveries }
+    {
+        match batch_of(&self.answer) {
+            None => 0,
+            Some(batch) => batch.len().saturating_sub(self.written),
+        }
     }
 
     /// Drops the first deliveries, which were written.
@@ -85,7 +96,7 @@ impl Owed {
     pub fn drop_many(&mut self, count: usize)
         ensures { self.new ≡ record self.old { deliveries = drop count self.old.deliveries } }
     {
-        let _bound = deliveries_of(&self.answer).len();
+        let _bound = count_of(&self.answer);
         self.written = self.written.saturating_add(count);
     }
 }
@@ -102,10 +113,9 @@ const ROOM: usize = 65_536;
 pub fn make_room(alloc: Global, out: &mut Vec<u8>, owed: &Owed)
     ensures { out.new.items ≡ out.old.items }
 {
-    let deliveries = owed.deliveries();
-    if let Some(next) = deliveries.first() {
-        let each = next.message.payload().len().saturating_add(LINE);
-        let room = deliveries.len().saturating_mul(each).min(ROOM);
+    if let Some(next) = owed.deliveries().next() {
+        let each = next.payload.len().saturating_add(LINE);
+        let room = owed.len().saturating_mul(each).min(ROOM);
         grow(alloc, out, room);
     }
 }
@@ -144,23 +154,33 @@ fn missed_in(outcome: &Outcome) -> Option<bool>
 }
 
 /// The deliveries of an answer, if there is one: those of a Take, and no others have any.
-fn deliveries_of(answer: &Option<Answer>) -> &[Delivery]
-    ensures { result.now ≡ deliveries_of answer.now }
+fn batch_of(answer: &Option<Answer>) -> Option<&Batch<Waiting>>
+    ensures { MatchOption result (deliveries_of answer.now ≡ []) (λ batch. batch.now ≡ deliveries_of answer.now) }
 {
     match answer {
-        None => &[],
+        None => None,
         Some(answer) => match &answer.get().outcome {
-            Outcome::Taken(deliveries, _) => deliveries_in(deliveries),
+            Outcome::Taken(batch, _) => Some(batch),
             Outcome::Connected
             | Outcome::AuthViolation
             | Outcome::Subscribed
             | Outcome::SameSid
             | Outcome::SubLimit
             | Outcome::Unsubscribed
-            | Outcome::Closed => &[],
-            Outcome::Denied(_) => &[],
-            Outcome::Published(_, _) => &[],
-            Outcome::Reloaded { .. } => &[],
+            | Outcome::Closed => None,
+            Outcome::Denied(_) => None,
+            Outcome::Published(_, _) => None,
+            Outcome::Reloaded { .. } => None,
         },
+    }
+}
+
+/// How many deliveries an answer has, if there is one.
+fn count_of(answer: &Option<Answer>) -> usize
+    ensures { result ≡ length (deliveries_of answer.now) }
+{
+    match batch_of(answer) {
+        None => 0,
+        Some(batch) => batch.len(),
     }
 }

@@ -4,36 +4,34 @@ ghost use Rattle.session_plan.specs.pending.Texts.{IsWritten};
 
 use crate::pending::{Owed, write_delivery};
 use base::NoMemory;
-use events::Delivery;
 use std::mem;
 
-/// Writes deliveries in turn, as far as memory allows, and returns those that are left.
-#[inline(always)]
-fn write_each<'a>(out: &mut Vec<u8>, headers: bool, deliveries: &'a [Delivery]) -> &'a [Delivery]
-    ensures { IsWritten headers out.old.items deliveries.now out.new.items result.now }
+/// Writes deliveries in turn, as far as memory allows, and returns how many.
+fn write_each(out: &mut Vec<u8>, headers: bool, owed: &Owed) -> usize
+    ensures { IsWritten headers out.old.items owed.now.deliveries out.new.items (drop result owed.now.deliveries) }
 {
-    let mut left = deliveries;
-    while let [next, behind @ ..] = left {
-        if write_delivery(out, headers, next).is_err() {
-            return left;
+    let _bound = owed.len();
+    let mut left = owed.deliveries();
+    let mut written = 0;
+    while let Some(next) = left.next() {
+        if write_delivery(out, headers, &next).is_err() {
+            return written;
         }
-        left = behind;
+        written += 1;
     }
-    left
+    written
 }
 
 /// Writes deliveries from the front, as far as memory allows, and returns how many. The buffer is a local meanwhile, since nothing
 /// else points to it then. What stands in its place takes no memory.
-#[tactic(auto, using(crate::proofs::pending::Written::so_many_written))]
 fn write_some(out: &mut Vec<u8>, headers: bool, owed: &Owed) -> usize
     ensures { IsWritten headers out.old.items owed.now.deliveries out.new.items (drop result owed.now.deliveries) }
 {
-    let all = owed.deliveries();
     let alloc = *out.allocator();
     let mut texts = mem::replace(out, Vec::new(alloc));
-    let left = write_each(&mut texts, headers, all);
+    let written = write_each(&mut texts, headers, owed);
     mem::forget(mem::replace(out, texts));
-    all.len() - left.len()
+    written
 }
 
 /// Writes deliveries from the front. Where memory lacks, `NoMemory`, the rest stays.
@@ -44,7 +42,7 @@ pub fn write_front(out: &mut Vec<u8>, headers: bool, owed: &mut Owed) -> Result<
 {
     let written = write_some(out, headers, owed);
     owed.drop_many(written);
-    if owed.deliveries().is_empty() {
+    if owed.len() == 0 {
         Ok(())
     } else {
         Err(NoMemory)

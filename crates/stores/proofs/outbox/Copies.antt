@@ -8,9 +8,6 @@ use Rattle.stores.proofs.outbox.Parts.{one_behind}
 pub one_copied : {X T : Type 0} (each : X → List T) (copies : List X) (x part copy : X) (gone n : ℕ) → each part ≡ take (gone + n) (each x) → each copy ≡ drop gone (each part) → flat_map each (copies ++ copy ∷ []) ≡ flat_map each copies ++ take n (drop gone (each x))
 one_copied each copies x part copy gone n e f = one_behind each copies copy ∙ ap (λ t. flat_map each copies ++ t) (f ∙ ap (drop gone) e ∙ drop-take gone n (each x))
 
-pub whole_part : {X T : Type 0} (each : X → List T) (x part : X) (n : ℕ) → part ≡ x → length (each x) ≤ n → each part ≡ take n (each x)
-whole_part each x part n e h = ap each e ∙ sym (take_all n (each x) h)
-
 pub none_wanted : {X : Type 0} (all xs : List X) (left : ℕ) → left ≡ 0 → all ++ take left xs ≡ all
 none_wanted all xs left e = ap (λ k. all ++ take k xs) e ∙ append-nil all
 

@@ -3,7 +3,7 @@ ghost use Rattle.stores.specs.outbox.Bounded.{batched, listed, AreSome, IsPart};
 
 use crate::outbox::batch::Batch;
 use crate::outbox::several::Several;
-use base::{Copying, NoMemory};
+use base::NoMemory;
 use circular_buffer::HeapCircularBuffer;
 use std::alloc::Global;
 use std::marker::Model;
@@ -187,7 +187,7 @@ impl<T: Several + Drop> Outbox<T> {
     }
 }
 
-impl<T: Several + Copying + Drop> Outbox<T> {
+impl<T: Several + Drop> Outbox<T> {
     ghost use Rattle.std.specs.Prelude.{◌≡◌, take, drop, IfOk, OnErr};
 
     /// Returns copies of the next elements, `most` at most, oldest first. The elements stay. `NoMemory` where memory
@@ -374,23 +374,9 @@ fn take_front<T: Several + Drop>(
     Ok(batch)
 }
 
-/// Returns a copy of the first so many of an element.
-#[tactic(auto, using(crate::proofs::outbox::Copies::whole_part))]
-fn copy_first<T: Several + Copying>(alloc: Global, item: &T, count: usize) -> Result<T, NoMemory>
-    requires some { 1 ≤ count }
-    requires within { count ≤ length (T.each item.now) }
-    ensures { IfOk result (λ copy. T.each copy ≡ take count (T.each item.now)) }
-{
-    if count < item.count() {
-        Ok(item.first_part(alloc, count)?)
-    } else {
-        Ok(item.copy(alloc)?)
-    }
-}
-
 /// Adds a copy of an element's part: so many of it behind those that are left out.
 #[tactic(auto, using(crate::proofs::outbox::Copies::one_copied, crate::proofs::outbox::Copies::none_wanted))]
-fn copy_part<T: Several + Copying + Drop>(
+fn copy_part<T: Several + Drop>(
     alloc: Global,
     item: &T,
     gone: usize,
@@ -404,14 +390,14 @@ fn copy_part<T: Several + Copying + Drop>(
         return Ok(());
     }
     let _bound = item.count();
-    let mut copy = copy_first(alloc, item, gone + count)?;
+    let mut copy = item.first_part(alloc, gone + count)?;
     copy.leave_out(gone);
     copies.push(copy)?;
     Ok(())
 }
 
 /// Adds copies of what elements are behind those that are left out, `most` at most, and returns how many more may be.
-fn copy_some<T: Several + Copying + Drop>(
+fn copy_some<T: Several + Drop>(
     alloc: Global,
     items: &[T],
     gone: usize,
@@ -438,7 +424,7 @@ fn copy_some<T: Several + Copying + Drop>(
 }
 
 /// Returns copies of what elements are behind those that are left out, and of a ring behind them, `most` at most.
-fn copy_both<T: Several + Copying + Drop>(
+fn copy_both<T: Several + Drop>(
     items: &[T],
     gone: usize,
     ring: &HeapCircularBuffer<T>,

@@ -1,7 +1,7 @@
 ghost use Rattle.std.specs.Prelude.{◌≡◌, IfOk};
 
 use base::{Alike, Copying, Items, NoMemory};
-use events::{Delivery, are_same_deliveries};
+use events::{Waiting, are_same_deliveries};
 use policy_ready::User;
 use reply_grants::PlainGrant;
 use std::alloc::Global;
@@ -18,7 +18,7 @@ pub struct PlainSession {
     missed: bool,
     // How much may wait. It has 128 bits, since an outbox tells only how much waits and how much more may.
     capacity: u128,
-    waiting: Batch<Delivery>,
+    waiting: Batch<Waiting>,
     replies: Option<Items<PlainGrant>>,
 }
 
@@ -69,14 +69,14 @@ impl PlainSession {
 }
 
 /// How much may wait in an outbox.
-fn capacity_of(outbox: &Outbox<Delivery>) -> u128
+fn capacity_of(outbox: &Outbox<Waiting>) -> u128
     ensures { result ≡ outbox.now.capacity }
 {
     outbox.len() as u128 + outbox.room() as u128
 }
 
 /// All that waits in an outbox, oldest first.
-fn waiting_in(outbox: &Outbox<Delivery>) -> Result<Batch<Delivery>, NoMemory>
+fn waiting_in(outbox: &Outbox<Waiting>) -> Result<Batch<Waiting>, NoMemory>
     ensures { IfOk result (λ waiting. waiting ≡ outbox.now.waiting) }
 {
     let waiting = outbox.front(outbox.len())?;

@@ -1,5 +1,5 @@
 use base::{Boxed, Copying, NoMemory};
-use events::Delivery;
+use events::{Delivery, Waiting};
 use policy_ready::User;
 use reply_grants::{Note, Replies};
 use std::alloc::Global;
@@ -19,7 +19,7 @@ pub struct Session {
     /// Whether a full outbox has lost a delivery since the Connect or last Take.
     pub missed: bool,
     /// What waits for the client.
-    pub outbox: Outbox<Delivery>,
+    pub outbox: Outbox<Waiting>,
     /// On what it may respond.
     pub replies: Replies,
 }
@@ -86,7 +86,7 @@ impl Session {
 
     /// Returns the oldest deliveries, `most` at most, to be owned by others too. They stay. `NoMemory` where memory
     /// could not be had.
-    pub fn share(&mut self, most: usize) -> Result<Batch<Delivery>, NoMemory>
+    pub fn share(&mut self, most: usize) -> Result<Batch<Waiting>, NoMemory>
         ensures front { IfOk result (λ front. front ≡ take most self.old.outbox.waiting) }
         ensures same { self.new ≡ self.old }
     {

@@ -6,7 +6,7 @@ ghost use Rattle.world_sessions.specs.leniency.Held.{bytes_of, weight_of, is_ove
 
 use crate::Session;
 use base::NoMemory;
-use events::{Delivery, Message, deliveries_in};
+use events::{Deliveries, DeliveryRef, Message};
 
 /// Returns how many bytes a message has, beside its subjects.
 #[inline(always)]
@@ -17,19 +17,20 @@ pub fn bytes_of(message: &Message) -> usize
 }
 
 /// Returns how many bytes a delivery has, beside its subjects.
-fn weight_of(delivery: &Delivery) -> usize
+fn weight_of(delivery: &DeliveryRef<'_>) -> usize
     ensures { result ≡ weight_of delivery.now }
 {
-    delivery.message.head().len() + delivery.message.payload().len()
+    delivery.head.len() + delivery.payload.len()
 }
 
 /// Returns whether deliveries have more bytes than so many.
-fn weigh_more(waiting: &[Delivery], room: usize) -> bool
-    ensures { result ≡ nat_lt room (sum_by weight_of waiting.now) }
+fn weigh_more(waiting: Deliveries<'_>, room: usize) -> bool
+    ensures { result ≡ nat_lt room (sum_by weight_of waiting.entry) }
 {
+    let mut next = waiting;
     let mut left = room;
-    for delivery in waiting {
-        let bytes = weight_of(delivery);
+    while let Some(delivery) = next.next() {
+        let bytes = weight_of(&delivery);
         if left < bytes {
             return true;
         }
@@ -46,5 +47,5 @@ pub(crate) fn is_over(room: Option<usize>, session: Option<&Session>) -> Result<
         return Ok(false);
     };
     let waiting = session.outbox.front(session.outbox.len())?;
-    Ok(weigh_more(deliveries_in(&waiting), room))
+    Ok(weigh_more(Deliveries::of(&waiting), room))
 }

@@ -1,10 +1,19 @@
 -- one more delivery is written
-use Rattle.std.proofs.Common.{◌∙◌, sym}
-use Rattle.session_plan.proofs.pending.Written.{on_ok, written_next}
+use Rattle.std.proofs.Common.{◌∙◌, length, length-drop, sym, ap, arith}
+use Rattle.session_plan.proofs.pending.Written.{on_ok, next_left, written_next}
 use Rattle.session_plan.proofs.pending.writing.write_each.Goals as goal
 
-pub loop-left-preserved : goal.loop-left-preserved
-loop-left-preserved c =
-    written_next c.args.headers c.args.out.now.items c.args.deliveries.now c.loop-left.out.items c.loop-left.left.now c.next-item.result c.write_delivery.new.out.items
-    c.loop-left.invariant c.in-len1-up.len_at_least c.next-item.is
-    (on_ok c.write_delivery.result (sym c.is_err.ensures.value ∙ c.if-is_err.false) c.write_delivery.ensures.ok)
+pub overflow_add-written : goal.overflow_add-written
+overflow_add-written c =
+    let next = sym c.loop-next.invariant.left ∙ c.in-Some.ensures in
+    omega (arith, ap length next, length-drop c.loop-next.written c.args.owed.now.deliveries)
+
+pub loop-next-preserved : goal.loop-next-preserved
+loop-next-preserved c =
+    let next = sym c.loop-next.invariant.left ∙ c.in-Some.ensures in
+    let text = on_ok c.write_delivery.result (sym c.is_err.ensures.value ∙ c.if-is_err.false) c.write_delivery.ensures.ok in
+    record {
+      written = written_next c.args.headers c.args.out.now.items c.args.owed.now.deliveries c.loop-next.written c.loop-next.out.items c.in-Some.next c.next.new.self c.write_delivery.new.out.items
+          c.loop-next.invariant.written next text;
+      left = next_left c.args.owed.now.deliveries c.loop-next.written c.in-Some.next c.next.new.self next;
+    }

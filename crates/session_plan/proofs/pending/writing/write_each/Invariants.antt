@@ -1,10 +1,13 @@
--- a front of the deliveries is written
-use Rattle.std.proofs.Common.{length}
+-- so many are written, and the others are left
+use Rattle.std.proofs.Common.{◌≡◌, drop, length}
 use Rattle.session_plan.specs.pending.Texts.{IsWritten}
 use Rattle.session_plan.proofs.pending.writing.write_each.Given as goal
 
-abbrev pub invariant-loop-left : goal.invariant-loop-left
-invariant-loop-left l = IsWritten l.headers l.fn.out.items l.fn.deliveries l.out.items l.left
+abbrev pub invariant-loop-next : goal.invariant-loop-next
+invariant-loop-next l = record {
+  written : IsWritten l.headers l.fn.out.items l.fn.owed.deliveries l.out.items (drop l.written l.fn.owed.deliveries);
+  left : l.left ≡ drop l.written l.fn.owed.deliveries;
+}
 
-abbrev pub decreases-loop-left : goal.decreases-loop-left
-decreases-loop-left l = length l.left
+abbrev pub decreases-loop-next : goal.decreases-loop-next
+decreases-loop-next l = length l.left
