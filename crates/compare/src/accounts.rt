@@ -26,10 +26,8 @@ fn add_others<'a>(
 ) -> Result<(), NoMemory> {
     for named in doc.accounts.as_slice() {
         if other.accounts.get(&named.name).is_none() {
-            told.push(AccountChange {
-                name: named.name.as_slice(),
-                is_new,
-            })?;
+            let name = named.name.as_slice();
+            told.push(AccountChange { name, is_new })?;
         }
     }
     Ok(())

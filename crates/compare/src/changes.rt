@@ -51,18 +51,9 @@ fn others_between<'a>(
     let mut changes = Vec::new(alloc);
     add_answers(&mut changes, was, now)?;
     let (had, has) = (rows_of(alloc, old)?, rows_of(alloc, new)?);
-    add_exchanges(
-        alloc,
-        &mut changes,
-        (old, had.as_slice()),
-        (new, has.as_slice()),
-    )?;
-    add_services(
-        alloc,
-        &mut changes,
-        (old, had.as_slice()),
-        (new, has.as_slice()),
-    )?;
+    let (before, after) = ((old, had.as_slice()), (new, has.as_slice()));
+    add_exchanges(alloc, &mut changes, before, after)?;
+    add_services(alloc, &mut changes, before, after)?;
     add_mappings(alloc, &mut changes, old, new)?;
     add_sets(alloc, &mut changes, old, new)?;
     Ok(changes)

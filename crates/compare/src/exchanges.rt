@@ -85,12 +85,11 @@ fn add_carried<'a>(
     other: &PolicyFile,
     sampling: Sampling<'_>,
 ) -> Result<(), NoMemory> {
-    for row in side.1 {
-        if !stands_there(other, row) {
-            if let Some((carried, import)) = first_of(alloc, row, (side.0, other), sampling)? {
-                let place = place_of(alloc, side.0, row, import)?;
-                found.push(exchange(alloc, row, is_gain, carried, (import, place))?)?;
-            }
+    for row in side.1.iter().filter(|row| !stands_there(other, row)) {
+        if let Some((carried, import)) = first_of(alloc, row, (side.0, other), sampling)? {
+            let importer = row.importer.name.as_slice();
+            let place = side.0.place_of_import(alloc, importer, import)?;
+            found.push(exchange(alloc, row, is_gain, carried, (import, place))?)?;
         }
     }
     Ok(())
@@ -98,20 +97,7 @@ fn add_carried<'a>(
 
 /// Whether another policy has the same import at the same index.
 fn stands_there(other: &PolicyFile, row: &ImportRow<'_>) -> bool {
-    match import_at(other, row.importer, row.index) {
-        None => false,
-        Some(import) => import.is_like(row.import),
-    }
-}
-
-/// Returns where the import at an index of a row's importer stands.
-fn place_of(
-    alloc: Global,
-    file: &PolicyFile,
-    row: &ImportRow<'_>,
-    import: usize,
-) -> Result<Option<Place>, NoMemory> {
-    file.place_of_import(alloc, row.importer.name.as_slice(), import)
+    import_at(other, row.importer, row.index).is_some_and(|import| import.is_like(row.import))
 }
 
 fn exchange<'a>(
@@ -164,9 +150,8 @@ pub(crate) fn carried_at<'a>(
         return Ok(None);
     };
     match row.mapping.forward(alloc, &outer.lend()) {
-        Ok(None) => Ok(None),
         Ok(Some(local)) => Ok(Some(carried_by(row, outer, local))),
-        Err(MapError::TooLong) => Ok(None),
+        Ok(None) | Err(MapError::TooLong) => Ok(None),
         Err(MapError::NoMemory) => Err(NoMemory),
     }
 }
@@ -217,16 +202,10 @@ fn import_of(
     kind: Kind,
     carried: &Carried<'_>,
 ) -> Result<Option<usize>, NoMemory> {
-    let from = carried.from.as_slice();
-    let views = file
-        .rows()
-        .crossings(alloc, from, &carried.from_subject.lend())?;
-    for view in views.as_slice() {
-        if let Some(index) = import_in(view, kind, carried) {
-            return Ok(Some(index));
-        }
-    }
-    Ok(None)
+    let (from, subject) = (carried.from.as_slice(), carried.from_subject.lend());
+    let views = file.rows().crossings(alloc, from, &subject)?;
+    let mut imports = views.as_slice().iter();
+    Ok(imports.find_map(|view| import_in(view, kind, carried)))
 }
 
 /// Returns the index of a view's import, if it is that of the message.
@@ -253,33 +232,20 @@ fn import_in(view: &ViewItem, kind: Kind, carried: &Carried<'_>) -> Option<usize
 /// Which of two comes first: by both accounts' names, what is gained first, streams before services, then by
 /// subjects.
 fn order_of(one: &ExchangeChange<'_>, other: &ExchangeChange<'_>) -> Ordering {
-    let order = one.from.cmp(other.from);
-    let order = then(order, one.to.cmp(other.to));
-    let order = then(order, other.is_gain.cmp(&one.is_gain));
-    let order = then(order, is_service(one.kind).cmp(&is_service(other.kind)));
-    let order = then(
-        order,
-        one.from_subject
-            .as_slice()
-            .cmp(other.from_subject.as_slice()),
-    );
-    let order = then(
-        order,
-        one.to_subject.as_slice().cmp(other.to_subject.as_slice()),
-    );
-    then(order, one.import.cmp(&other.import))
+    one.from
+        .cmp(other.from)
+        .then(one.to.cmp(other.to))
+        .then(other.is_gain.cmp(&one.is_gain))
+        .then(is_service(one.kind).cmp(&is_service(other.kind)))
+        .then(
+            one.from_subject
+                .as_slice()
+                .cmp(other.from_subject.as_slice()),
+        )
+        .then(one.to_subject.as_slice().cmp(other.to_subject.as_slice()))
+        .then(one.import.cmp(&other.import))
 }
 
-fn then(order: Ordering, next: Ordering) -> Ordering {
-    match order {
-        Ordering::Equal => next,
-        order => order,
-    }
-}
-
-fn is_service(kind: Kind) -> bool {
-    match kind {
-        Kind::Stream => false,
-        Kind::Service => true,
-    }
+pub(crate) fn is_service(kind: Kind) -> bool {
+    matches!(kind, Kind::Service)
 }

@@ -10,7 +10,6 @@ mod exchanges;
 mod lists;
 mod mappings;
 mod members;
-mod places;
 mod policy_file;
 mod rows;
 mod services;

@@ -126,11 +126,9 @@ fn lines_for<'a>(
     ensures { IfOk result (λ lines. AreLines (user_of pair.now.old.1) (user_of pair.now.new.1) lines.items) }
 {
     if pair.old.1.has_own || pair.new.1.has_own {
-        let lines = own_lines(alloc, pair)?;
-        return Ok(lines);
+        return own_lines(alloc, pair);
     }
-    let lines = lines_by(alloc, pair, usual)?;
-    Ok(lines)
+    lines_by(alloc, pair, usual)
 }
 
 /// Returns what a user gains and loses, by its own lists.
@@ -139,8 +137,7 @@ fn own_lines<'a>(alloc: Global, pair: &Pair<'a>) -> Result<Vec<ListChange<'a>>, 
 {
     let (old, new) = (&pair.old.1.user.rules, &pair.new.1.user.rules);
     let found = between(alloc, old, new)?;
-    let lines = lines_by(alloc, pair, found.as_slice())?;
-    Ok(lines)
+    lines_by(alloc, pair, found.as_slice())
 }
 
 /// Returns the lines of what a user gains and loses.
@@ -251,21 +248,15 @@ fn verdict_of(alloc: Global, rules: &Compiled, change: &MessageChange) -> Result
 fn entry_of(kind: MessageKind, rules: &Compiled, verdict: Verdict) -> Option<&PermEntry> {
     let rules = kind.rules_of(rules)?;
     match verdict {
-        Verdict::Allowed(by) => match by {
-            By::All => None,
-            By::Index(index) => allow_entry(rules, index),
-            By::Grant => None,
-        },
+        Verdict::Allowed(By::Index(index)) | Verdict::NoQueueAllow(index) => {
+            allow_entry(rules, index)
+        }
         Verdict::DeniedBy(index) => rules.deny.as_slice().get(index),
-        Verdict::NoAllow => None,
-        Verdict::NoQueueAllow(index) => allow_entry(rules, index),
+        _ => None,
     }
 }
 
 /// Returns the allow entry at an index, if there is one.
 fn allow_entry(rules: &Direction, index: usize) -> Option<&PermEntry> {
-    match &rules.allow {
-        None => None,
-        Some(entries) => entries.as_slice().get(index),
-    }
+    rules.allow.as_ref()?.as_slice().get(index)
 }

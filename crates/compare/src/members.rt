@@ -166,13 +166,6 @@ fn name_of<'a>(member: &Member<'a>) -> &'a [u8]
 
 /// Which of two users comes first, by account and then by name.
 fn order_of(one: &Member<'_>, other: &Member<'_>) -> Ordering {
-    match one
-        .user
-        .account
-        .as_slice()
-        .cmp(other.user.account.as_slice())
-    {
-        Ordering::Equal => name_of(one).cmp(name_of(other)),
-        order => order,
-    }
+    let (account, others) = (one.user.account.as_slice(), other.user.account.as_slice());
+    account.cmp(others).then(name_of(one).cmp(name_of(other)))
 }

@@ -1,11 +1,10 @@
 //! A policy with its text's places.
-use crate::places::Places;
 use base::NoMemory;
 use message_changes::MessageKind;
 use permissions::Verdict;
 use policy_doc::{Policy, PolicyDoc};
-use policy_notes::paths::entry_path;
-use policy_notes::positions::Place;
+use policy_notes::paths::{entry_path, row_path};
+use policy_notes::positions::{Place, Places};
 use policy_permissions::Side;
 use policy_ready::imports::Rows;
 use policy_ready::{CompiledPolicy, User};
@@ -93,13 +92,11 @@ impl PolicyFile {
         kind: MessageKind,
         verdict: Verdict,
     ) -> Result<Option<Place>, NoMemory> {
-        let Some(user) = row_path(alloc, account, "users", row)? else {
+        let Some(user) = path_of(alloc, account, "users", row)? else {
             return Ok(None);
         };
-        match entry_path(alloc, &self.value, &user, side_of(kind), verdict)? {
-            None => Ok(None),
-            Some(path) => Ok(self.places.place_of(&path)),
-        }
+        let path = entry_path(alloc, &self.value, &user, side_of(kind), verdict)?;
+        Ok(path.and_then(|path| self.places.place_of(&path)))
     }
 
     /// Returns where the import stands that is this one of an account's.
@@ -109,10 +106,8 @@ impl PolicyFile {
         account: &[u8],
         row: usize,
     ) -> Result<Option<Place>, NoMemory> {
-        match row_path(alloc, account, "imports", row)? {
-            None => Ok(None),
-            Some(path) => Ok(self.places.place_of(&path)),
-        }
+        let path = path_of(alloc, account, "imports", row)?;
+        Ok(path.and_then(|path| self.places.place_of(&path)))
     }
 }
 
@@ -129,30 +124,23 @@ fn placed(alloc: Global, text: &[u8]) -> Result<(Value, Places), NoMemory> {
     Ok((value, places))
 }
 
-/// Returns the path of a row of an account, if the account's name is text.
-fn row_path(
+/// Returns the path of a row of a list of an account, if the account's name is text.
+fn path_of(
     alloc: Global,
     account: &[u8],
     list: &str,
     row: usize,
 ) -> Result<Option<Path>, NoMemory> {
-    let Ok(account) = str::from_utf8(account) else {
-        return Ok(None);
-    };
-    let rows = Path::whole(alloc)
-        .key(alloc, "accounts")?
-        .key(alloc, account)?
-        .key(alloc, list)?;
-    Ok(Some(rows.index(alloc, row)?))
+    match str::from_utf8(account) {
+        Err(_) => Ok(None),
+        Ok(account) => Ok(Some(row_path(alloc, account, list, row)?)),
+    }
 }
 
 /// Returns the direction whose lists decide a question.
 fn side_of(kind: MessageKind) -> Side {
     match kind {
         MessageKind::Publish => Side::Publish,
-        MessageKind::Subscribe
-        | MessageKind::QueueSubscribe
-        | MessageKind::Delivery
-        | MessageKind::QueueDelivery => Side::Subscribe,
+        _ => Side::Subscribe,
     }
 }

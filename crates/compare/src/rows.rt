@@ -1,7 +1,7 @@
 //! The import rows of a policy, with their mappings made.
 use crate::PolicyFile;
 use base::NoMemory;
-use mapping::{Mapping, MappingError};
+use mapping::Mapping;
 use policy_doc::exports::{Kind, may_import};
 use policy_doc::{ImportDoc, NamedAccount, ResponseTerms};
 use std::alloc::Global;
@@ -48,17 +48,9 @@ fn add_rows<'a>(
 
 /// Returns the mapping of an import. In a valid policy each has one.
 fn mapping_of(alloc: Global, import: &ImportDoc) -> Result<Mapping, NoMemory> {
-    match made(alloc, import) {
+    match import.mapping(alloc) {
         Ok(mapping) => Ok(mapping),
         Err(_) => Err(NoMemory),
-    }
-}
-
-fn made(alloc: Global, import: &ImportDoc) -> Result<Mapping, MappingError> {
-    match (&import.to, &import.prefix) {
-        (Some(template), _) => Mapping::with_to(alloc, &import.subject, template.as_slice()),
-        (None, Some(prefix)) => Mapping::with_prefix(alloc, &import.subject, prefix),
-        (None, None) => Mapping::identity(alloc, &import.subject),
     }
 }
 
@@ -81,8 +73,5 @@ pub(crate) fn terms_of(
     let exporter = file.doc().accounts.get(&import.account)?;
     let exports = exporter.account.exports.as_slice();
     let place = may_import(exports, &importer.name, Kind::Service, &import.subject)?;
-    match exports.get(place) {
-        None => None,
-        Some(export) => Some(export.response),
-    }
+    Some(exports.get(place)?.response)
 }

@@ -1,8 +1,9 @@
 //! On what terms the requests of imports are answered, and whose routes a reload ends.
-use crate::exchanges::{Side, carried_at};
+use crate::exchanges::{Side, carried_at, is_service};
 use crate::rows::{ImportRow, import_at, terms_of};
 use crate::{Change, PolicyFile, ServiceTerms};
 use base::{Alike, NoMemory};
+use mapping::templates::count_tokens;
 use policy_doc::ImportDoc;
 use policy_doc::exports::Kind;
 use std::alloc::Global;
@@ -15,9 +16,8 @@ pub(crate) fn add_services<'a>(
     new: Side<'a, '_>,
 ) -> Result<(), NoMemory> {
     for row in new.1 {
-        match row.import.kind {
-            Kind::Stream => {}
-            Kind::Service => add_service(alloc, changes, old, (new.0, row))?,
+        if is_service(row.import.kind) {
+            add_service(alloc, changes, old, (new.0, row))?;
         }
     }
     Ok(())
@@ -48,10 +48,9 @@ fn add_service<'a>(
 
 /// Returns the import of a policy that is this one: at the same index, or else another.
 fn same_import<'a>(file: &'a PolicyFile, row: &ImportRow<'_>) -> Option<&'a ImportDoc> {
-    if let Some(import) = import_at(file, row.importer, row.index) {
-        if import.is_like(row.import) {
-            return Some(import);
-        }
+    let same = import_at(file, row.importer, row.index);
+    if let Some(import) = same.filter(|import| import.is_like(row.import)) {
+        return Some(import);
     }
     let named = file.doc().accounts.get(&row.importer.name)?;
     let imports = named.account.imports.as_slice();
@@ -104,7 +103,7 @@ fn pairs_alike(
     if !is_near {
         return Ok(false);
     }
-    let tokens = tokens_of(one);
+    let tokens = count_tokens(&one.import.subject);
     let first = carried_at(alloc, one, tokens, b"x")?;
     let second = carried_at(alloc, other, tokens, b"x")?;
     match (first, second) {
@@ -113,20 +112,7 @@ fn pairs_alike(
     }
 }
 
-/// Returns how many tokens an import's pattern has.
-fn tokens_of(row: &ImportRow<'_>) -> usize {
-    let mut count: usize = 0;
-    let mut tokens = row.import.subject.tokens();
-    while tokens.next_piece().is_some() {
-        count = count.saturating_add(1);
-    }
-    count
-}
-
 /// Returns the text of an import's template, if it has one.
 fn template_of<'a>(row: &ImportRow<'a>) -> Option<&'a [u8]> {
-    match &row.import.to {
-        None => None,
-        Some(text) => Some(text.as_slice()),
-    }
+    Some(row.import.to.as_ref()?.as_slice())
 }

@@ -34,22 +34,11 @@ fn add_others(
     is_new: bool,
 ) -> Result<(), NoMemory> {
     for set in sets.as_slice() {
-        if !has(others.as_slice(), set) {
+        if !others.as_slice().iter().any(|other| other.is_like(set)) {
             told.push((copy_of(alloc, set)?, is_new))?;
         }
     }
     Ok(())
-}
-
-/// Whether a set is among others, which are in the order of their first names.
-fn has(sets: &[Items<Bytes>], set: &Items<Bytes>) -> bool {
-    match sets.binary_search_by(|other| first_of(other).cmp(first_of(set))) {
-        Err(_) => false,
-        Ok(at) => match sets.get(at) {
-            None => false,
-            Some(other) => other.is_like(set),
-        },
-    }
 }
 
 /// Returns the first name of a set.
@@ -62,10 +51,8 @@ fn first_of(set: &Items<Bytes>) -> &[u8] {
 
 /// Which of two sets comes first: by their first names, and then what comes.
 fn order_of(one: &(Items<Bytes>, bool), other: &(Items<Bytes>, bool)) -> Ordering {
-    match first_of(&one.0).cmp(first_of(&other.0)) {
-        Ordering::Equal => other.1.cmp(&one.1),
-        order => order,
-    }
+    let order = first_of(&one.0).cmp(first_of(&other.0));
+    order.then(other.1.cmp(&one.1))
 }
 
 /// Returns the names of a set again.

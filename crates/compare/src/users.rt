@@ -143,8 +143,6 @@ fn told_as<'a>(member: &Member<'a>, what: Becoming<'a>) -> UserChange<'a>
 
 /// Which comes first, by account and then by name. No two have both alike.
 fn order_of(one: &UserChange<'_>, other: &UserChange<'_>) -> Ordering {
-    match one.account.cmp(other.account) {
-        Ordering::Equal => one.user.cmp(other.user),
-        order => order,
-    }
+    let order = one.account.cmp(other.account);
+    order.then(one.user.cmp(other.user))
 }

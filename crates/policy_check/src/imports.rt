@@ -1,7 +1,6 @@
 //! Imports that no user of their account can use.
 use crate::users::is_denied;
 use base::NoMemory;
-use mapping::{Mapping, MappingError};
 use policy_doc::{Direction, ImportDoc, Kind, PermDoc, UserDoc};
 use std::alloc::Global;
 use subjects::Pattern;
@@ -14,22 +13,13 @@ pub(crate) fn is_unused(
     users: &[UserDoc],
     usual: Option<&PermDoc>,
 ) -> Result<bool, NoMemory> {
-    match mapping_of(alloc, import) {
+    match import.mapping(alloc) {
         Ok(mapping) => {
             let local = mapping.local();
             let kind = import.kind;
             Ok(!users.iter().any(|user| may_use(user, usual, kind, local)))
         }
         Err(_) => Err(NoMemory),
-    }
-}
-
-/// How the subjects of an import are paired.
-fn mapping_of(alloc: Global, import: &ImportDoc) -> Result<Mapping, MappingError> {
-    match (&import.to, &import.prefix) {
-        (Some(template), _) => Mapping::with_to(alloc, &import.subject, template.as_slice()),
-        (None, Some(prefix)) => Mapping::with_prefix(alloc, &import.subject, prefix),
-        (None, None) => Mapping::identity(alloc, &import.subject),
     }
 }
 

@@ -4,6 +4,7 @@ use crate::permission_doc::PermDoc;
 use account_mappings::AccountMap;
 use base::{Copying, Items, NoMemory};
 use bytes::Bytes;
+use mapping::{Mapping, MappingError};
 use std::alloc::Global;
 use subjects::{Pattern, Subject};
 
@@ -134,6 +135,23 @@ pub struct ImportDoc {
     /// What the importer's subjects have before those of the exporter, or nothing. A valid document has it or `to`,
     /// or neither.
     pub prefix: Option<Subject>,
+}
+
+impl ImportDoc {
+    ghost use Rattle.mapping.specs.Fault.{IsMade};
+    ghost use Rattle.policy_doc.specs.Imports.{mapping_fault, mapping_of};
+
+    /// Returns how the importer's subjects are paired with the exporter's: by the template, else by the prefix, else each
+    /// is its own; or the fault of that (docs/POLICY.md, "Exports and imports").
+    pub fn mapping(&self, alloc: Global) -> Result<Mapping, MappingError>
+        ensures { IsMade (mapping_of self.now) (mapping_fault self.now) result }
+    {
+        match (&self.to, &self.prefix) {
+            (Some(template), _) => Mapping::with_to(alloc, &self.subject, template.as_slice()),
+            (None, Some(prefix)) => Mapping::with_prefix(alloc, &self.subject, prefix),
+            (None, None) => Mapping::identity(alloc, &self.subject),
+        }
+    }
 }
 
 impl Drop for ImportDoc {

@@ -4,4 +4,4 @@ mod entry;
 mod user;
 
 pub use entry::entry_path;
-pub use user::user_path;
+pub use user::{row_path, user_path};

@@ -3,11 +3,13 @@
 
 mod names;
 mod place;
+mod places;
 mod repeats;
 mod spots;
 mod starts;
 
 pub use names::at_of;
 pub use place::{Place, place_at};
+pub use places::Places;
 pub use repeats::{Repeat, repeats_of};
 pub use spots::{Spot, spots_of};

@@ -15,9 +15,9 @@ has_name name u = bytes_eq u.user name
 abbrev pub has_user : Name → NamedAccount → Bool
 has_user name a = list_any (has_name name) a.account.users
 
--- a row of an account's users
-abbrev pub row_path : List ℕ → ℕ → Path
-row_path account row = at_index (at_key (at_key (at_key [] (codes "accounts")) account) (codes "users")) row
+-- a row of an account, in the list under a key
+abbrev pub row_path : List ℕ → List ℕ → ℕ → Path
+row_path account list row = at_index (at_key (at_key (at_key [] (codes "accounts")) account) list) row
 
 -- a name as a text, if it is one
 abbrev pub text_if : List ℕ → Option (List ℕ)
@@ -25,7 +25,7 @@ text_if name = if is_utf8 name then Some name else None
 
 -- the first user of a name in an account
 abbrev pub path_in : Name → NamedAccount → Option Path
-path_in name a = option_and_then (λ account. option_map (row_path account) (position (has_name name) a.account.users)) (text_if a.name)
+path_in name a = option_and_then (λ account. option_map (row_path account (codes "users")) (position (has_name name) a.account.users)) (text_if a.name)
 
 -- the first user of a name
 abbrev pub user_path : PolicyDoc → Name → Option Path

@@ -58,7 +58,7 @@ fn path_in(alloc: Global, account: &NamedAccount, name: &[u8]) -> Result<Option<
         None => Ok(None),
         Some(text) => match row_of(account.account.users.as_slice(), name) {
             None => Ok(None),
-            Some(row) => Ok(Some(row_path(alloc, text, row)?)),
+            Some(row) => Ok(Some(row_path(alloc, text, "users", row)?)),
         },
     }
 }
@@ -73,13 +73,13 @@ fn text_if(name: &Bytes) -> Option<&str>
     }
 }
 
-/// Returns the path of a row of an account's users.
-fn row_path(alloc: Global, account: &str, row: usize) -> Result<Path, NoMemory>
-    ensures { IfOk result (λ path. path ≡ row_path account.now row) }
+/// Returns the path of a row of an account, in the list under this key. `NoMemory` where memory could not be had.
+pub fn row_path(alloc: Global, account: &str, list: &str, row: usize) -> Result<Path, NoMemory>
+    ensures { IfOk result (λ path. path ≡ row_path account.now list.now row) }
 {
-    let users = Path::whole(alloc)
+    let rows = Path::whole(alloc)
         .key(alloc, "accounts")?
         .key(alloc, account)?
-        .key(alloc, "users")?;
-    Ok(users.index(alloc, row)?)
+        .key(alloc, list)?;
+    Ok(rows.index(alloc, row)?)
 }

@@ -1,7 +1,6 @@
 //! The import rows of a policy, made.
 ghost use Rattle.std.specs.Prelude.{◌≡◌, ◌++◌, All, false, flat_map, IfOk, None, OnOk};
 ghost use Rattle.std.specs.Str.{bytes_eq};
-ghost use Rattle.mapping.specs.Fault.{IsMade};
 ghost use Rattle.policy_doc.specs.Imports.{mapping_of, mapping_fault, AreValidImports, IsValidImport};
 ghost use Rattle.policy_doc.specs.declared.document.NamedAccount.{NamedAccount};
 ghost use Rattle.policy_ready.specs.imports.Views.{row_at, rows_in};
@@ -11,7 +10,7 @@ use crate::imports::ImportRow;
 use crate::imports::crossing::{entrance_of, source_of};
 use base::{Items, NoMemory, Shared};
 use bytes::Bytes;
-use mapping::{Mapping, MappingError};
+use mapping::Mapping;
 use policy_doc::exports::Row;
 use policy_doc::{ImportDoc, NamedAccount};
 use std::alloc::Global;
@@ -77,20 +76,9 @@ fn mapping_of(alloc: Global, import: &ImportDoc) -> Result<Mapping, NoMemory>
     requires { mapping_fault import.now ≡ None }
     ensures { IfOk result (λ mapping. mapping ≡ mapping_of import.now) }
 {
-    match made(alloc, import) {
+    match import.mapping(alloc) {
         Ok(mapping) => Ok(mapping),
         Err(_) => Err(NoMemory),
-    }
-}
-
-/// Returns the mapping of an import, by its template, else by its prefix; or the fault of that.
-fn made(alloc: Global, import: &ImportDoc) -> Result<Mapping, MappingError>
-    ensures { IsMade (mapping_of import.now) (mapping_fault import.now) result }
-{
-    match (&import.to, &import.prefix) {
-        (Some(template), _) => Mapping::with_to(alloc, &import.subject, template.as_slice()),
-        (None, Some(prefix)) => Mapping::with_prefix(alloc, &import.subject, prefix),
-        (None, None) => Mapping::identity(alloc, &import.subject),
     }
 }
 

@@ -1,13 +1,13 @@
 //! Where in a policy's text something stands, by one index.
+use crate::positions::{Place, Spot, spots_of};
 use base::{NoMemory, Pieces};
-use policy_notes::positions::{Place, Spot, spots_of};
 use policy_walk::Path;
 use std::alloc::Global;
 use std::cmp::Ordering;
 
 /// The index of a text's places.
 #[derive(Drop)]
-pub(crate) struct Places {
+pub struct Places {
     /// The members and items, by where their object or list begins, then by name, then by place.
     spots: Vec<Spot>,
     /// Where each line but the first begins.
@@ -16,7 +16,7 @@ pub(crate) struct Places {
 
 impl Places {
     /// Returns the index of a JSON text. `NoMemory` where memory could not be had.
-    pub(crate) fn of(alloc: Global, text: &str) -> Result<Places, NoMemory> {
+    pub fn of(alloc: Global, text: &str) -> Result<Places, NoMemory> {
         let mut spots = spots_of(alloc, text)?;
         spots.sort_unstable_by(|one, other| order_of(one, other));
         let lines = lines_of(alloc, text.as_bytes())?;
@@ -25,7 +25,7 @@ impl Places {
 
     /// Returns the place of what a path names, or of the longest front of it that names something. `None` where no
     /// front does.
-    pub(crate) fn place_of(&self, path: &Path) -> Option<Place> {
+    pub fn place_of(&self, path: &Path) -> Option<Place> {
         let at = self.at_of(path)?;
         Some(self.place_at(at))
     }
@@ -35,10 +35,7 @@ impl Places {
         let mut parts = Pieces::of(path.as_str().as_bytes(), b'/');
         // (nothing stands before the first `/`)
         let _ = parts.next_piece();
-        let mut container = match self.spots.as_slice().first() {
-            None => return None,
-            Some(spot) => spot.container,
-        };
+        let mut container = self.spots.as_slice().first()?.container;
         let mut at = None;
         while let Some(part) = parts.next_piece() {
             match self.named(container, part) {
@@ -94,13 +91,10 @@ impl Places {
 
 /// Which of two spots comes first.
 fn order_of(one: &Spot, other: &Spot) -> Ordering {
-    match one.container.cmp(&other.container) {
-        Ordering::Equal => match name_of(one).cmp(name_of(other)) {
-            Ordering::Equal => one.at.cmp(&other.at),
-            order => order,
-        },
-        order => order,
-    }
+    one.container
+        .cmp(&other.container)
+        .then(name_of(one).cmp(name_of(other)))
+        .then(one.at.cmp(&other.at))
 }
 
 /// Whether a spot comes before the end of those with a name in an object or list.
