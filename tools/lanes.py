@@ -3,17 +3,21 @@
 The kit gives each task one processor to its end where RT_JOBS says how many there may be, and else plans more memory than
 checks take. Here as many run as there are lanes, those with the longest chain of others after them first. The first of these
 begins even where no lane is free, takes a single one, and has three jobs at least, since all others wait for it; it has four
-where nothing else can be done meanwhile. A chain is as long as the lines of code, definitions and proofs in it.
+where nothing else can be done meanwhile. The others give way to it. A chain is as long as the lines of code, definitions and
+proofs in it.
 """
 
 import concurrent.futures
 import contextlib
 import os
+import threading
 
 # A check with more jobs than this gains little.
 MOST_JOBS = 4
 # How many jobs the check has for which all others wait.
 FIRST_JOBS = 3
+# How nice a task is to the one for which all others wait.
+NICE = 10
 
 
 def weight(rt, key, lines):
@@ -41,6 +45,11 @@ def jobs_of(key, is_first, idle, waiting):
     return max(FIRST_JOBS if is_first else 1, min(MOST_JOBS, idle, idle // max(1, waiting)))
 
 
+def give_way():
+    """Has this thread, and what it will start, leave the processors to others."""
+    os.setpriority(os.PRIO_PROCESS, threading.get_native_id(), NICE)
+
+
 def watched(call, key, watch):
     """Returns a task that tells a watch, if there is one, that it begins and what it gave."""
     if not watch:
@@ -62,7 +71,10 @@ def replace(rt, lanes, watch=None):
         behind = chains(rt, tasks)
         left, running, given = sorted(tasks, key=lambda it: -behind[it]), {}, {}
         # (a kit may have left what it copied for its edits)
-        with getattr(rt, "ending", contextlib.nullcontext)(), concurrent.futures.ThreadPoolExecutor(2 * lanes) as pool:
+        with contextlib.ExitStack() as ends:
+            ends.enter_context(getattr(rt, "ending", contextlib.nullcontext)())
+            others = ends.enter_context(concurrent.futures.ThreadPoolExecutor(2 * lanes, initializer=give_way))
+            firsts = ends.enter_context(concurrent.futures.ThreadPoolExecutor(2 * lanes))
             while left or running:
                 ready = [it for it in left if all(below in given for below in tasks[it][0])]
                 for at, key in enumerate(ready):
@@ -73,6 +85,7 @@ def replace(rt, lanes, watch=None):
                     waiting = sum(tasks[it][1] > 0 for it in ready[at:])
                     jobs = jobs_of(key, is_first, idle, waiting)
                     left.remove(key)
+                    pool = firsts if is_first else others
                     running[pool.submit(watched(tasks[key][3], key, watch), given, jobs)] = key, 1 if is_first else jobs
                 ended = concurrent.futures.wait(running, return_when=concurrent.futures.FIRST_COMPLETED).done
                 for it in ended:
