@@ -10,15 +10,15 @@ use std::fmt;
 pub enum SubjectError {
     /// The text has no byte.
     Empty,
-    /// Two dots stand side by side, or one stands at an end.
+    /// Two dots are side by side, or one is at an end.
     EmptyToken,
     /// A byte is NUL, TAB, LF, CR or space.
     BadByte,
-    /// A token `>` stands before the last place.
+    /// A token `>` is before the last place.
     WildcardNotLast,
     /// There are more than 512 tokens.
     TooManyTokens,
-    /// Memory could not be had for the text.
+    /// There was no memory for the text.
     NoMemory,
     /// A token of a subject is `*` or `>`.
     Wildcard,
