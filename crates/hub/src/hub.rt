@@ -106,7 +106,7 @@ impl Hub {
             Ok(back) => back,
             Err(refused) => return Err((ready, refused)),
         };
-        let world = World::new(alloc, ready, caps.outbox, keys)?;
+        let world = World::new(alloc, ready, caps.outbox, keys);
         let opening = match keep(alloc, &world) {
             Ok(opening) => opening,
             Err(refused) => return Err((back, refused)),

@@ -63,7 +63,7 @@ impl Model for World {
 }
 
 impl World {
-    ghost use Rattle.std.specs.Prelude.{◌≡◌, ◌==◌, ◌<◌, ◌≤◌, ◌+◌, ℕ, Ok, [], false, IfOk, IfErr, OnErr, All, map};
+    ghost use Rattle.std.specs.Prelude.{◌≡◌, ◌==◌, ◌<◌, ◌≤◌, ◌+◌, ℕ, Ok, [], false, IfOk, OnErr, All, map};
     ghost use Rattle.policy_doc.specs.Accounts.{IsByName};
     ghost use Rattle.events.specs.declared.answer.Outcome.{Outcome};
     ghost use Rattle.world_sessions.specs.deliveries.Sessions.{session_of};
@@ -79,23 +79,18 @@ impl World {
     ghost use Rattle.world.specs.Remembering.{IsTrue};
     ghost use Rattle.world.specs.Shown.{standing_of, subscribed_of, waiting_of};
 
-    /// Returns the tables over a policy, with nobody connected. `outbox` is how many deliveries may wait for a session.
+    /// Returns the tables over a policy, with nobody connected. `outbox` is how many deliveries may wait for a session. It takes no
+    /// memory.
     /// Clients choose the tokens of subjects and the names of queues, so what finds them is hashed under keys that they
     /// can't know.
-    pub fn new(
-        alloc: Global,
-        ready: CompiledPolicy,
-        outbox: usize,
-        keys: RandomState,
-    ) -> Result<World, (CompiledPolicy, NoMemory)>
+    pub fn new(alloc: Global, ready: CompiledPolicy, outbox: usize, keys: RandomState) -> World
         requires low { 1 ≤ outbox }
         requires high { outbox ≤ 65536 }
-        ensures ok { IfOk result (λ world. world ≡ opening_world ready outbox) }
-        ensures names { IfOk result (λ _. IsByName ready.accounts) }
-        ensures err { IfErr result (λ refused. refused.0 ≡ ready) }
+        ensures world { result ≡ opening_world ready outbox }
+        ensures names { IsByName ready.accounts }
     {
         prove_valid(&ready);
-        Ok(World {
+        World {
             alloc,
             keys,
             ready,
@@ -108,7 +103,7 @@ impl World {
             caches: Caches::new(alloc, keys),
             routes: Routes::new(alloc),
             routes_at: 0,
-        })
+        }
     }
 
     /// Applies one event, which stays with the caller. The outcome and the world after it are the transition's. What is
