@@ -1,14 +1,13 @@
--- What is told of users: their lines, and which of them come and go.
-use Rattle.std.proofs.Common.{◌≡◌, ◌∙◌, ◌<◌, ◌++◌, ◌||◌, ℕ, zero, suc, Bool, true, false, List, [], ◌∷◌, length, map, Option, Some, None, ap, refl, sym, subst, arith, append_assoc, append-nil}
+-- What is told of users: their lines, and what becomes of them.
+use Rattle.std.proofs.Common.{◌≡◌, ◌∙◌, ◌<◌, ◌++◌, ℕ, zero, suc, Bool, true, false, List, [], ◌∷◌, length, map, Option, Some, None, ap, refl, sym, subst, arith, append_assoc, append-nil}
 use Rattle.std.specs.Prelude.{All, is_some}
-use Rattle.std.specs.List.{list_any, slice_index_or}
+use Rattle.std.specs.List.{flat_map, list_any, slice_index_or}
 use Rattle.std.specs.List.Sorted.{IsPermutation}
-use Rattle.std.specs.Str.{bytes_eq}
-use Rattle.std.proofs.lemmas.Bool.{and_from, and_parts, or_parts}
-use Rattle.std.proofs.lemmas.List.Elements.{All-contains, All-head, All-push, All-weaker}
+use Rattle.std.proofs.lemmas.Bool.{and_parts, or_parts}
+use Rattle.std.proofs.lemmas.List.Elements.{All-head}
 use Rattle.std.proofs.lemmas.List.Folds.{list_any-append}
-use Rattle.std.proofs.lemmas.List.Sorted.{list_any-IsPermutation, Contains-permutation}
-use Rattle.std.proofs.lemmas.Slice.Eq.{bytes_eq-Decides}
+use Rattle.std.proofs.lemmas.List.Concat.{flat_map-append}
+use Rattle.std.proofs.lemmas.List.Sorted.{Contains-permutation, IsPermutation-append, IsPermutation-map, IsPermutation-trans}
 use Rattle.subjects.specs.Subject.{Token, tokens_of}
 use Rattle.permissions.specs.Lists.{Lists, Queue}
 use Rattle.permissions.specs.declared.verdict.Verdict.{Verdict}
@@ -20,8 +19,8 @@ use Rattle.message_changes.specs.Exact.{AreJudgedAlike}
 use Rattle.message_changes.specs.Judging.{changes_by, is_allowed_if, is_refused_if, verdict_if, IsChange}
 use Rattle.message_changes.specs.declared.changes.MessageChange.{MessageChange}
 use Rattle.message_changes.specs.declared.kind.MessageKind.{MessageKind}
-use Rattle.compare.specs.Users.{is_about, is_gone, is_new, is_of, line_by, line_of, says_gone, says_new, AreAsked, AreBetween, AreComing, AreGone, AreLines, AreLinesIf, AreLinesOfAll, AreListsTold, AreUsersTold, IsLine, IsMore}
-use Rattle.compare.specs.declared.change.Becoming.TheVariants.{Gone, New}
+use Rattle.compare.proofs.Moved.{flat_moved}
+use Rattle.compare.specs.Users.{all_new, all_old, is_about, line_by, line_of, told_if, told_of, AreAsked, AreBetween, AreLines, AreLinesIf, AreLinesOfAll, AreListsTold, AreUsersTold, IsLine, Told}
 use Rattle.compare.specs.declared.change.ListChange.{ListChange}
 use Rattle.compare.specs.declared.change.UserChange.{UserChange}
 
@@ -102,66 +101,24 @@ lists_told old new us lines all each = record {
       alike old us lines each was is here.0 here.1 here.2 named none;
 }
 
--- ---- users that come and go
+-- ---- what becomes of users
 
-or_kept : (b c : Bool) → b ≡ true → (b || c) ≡ true
-or_kept true c e = refl
-or_kept false c e = absurd (both false e refl)
+-- what is told where something is so, and where it isn't
+pub if_so : (ts : List Told) (b : Bool) (t : Told) → b ≡ true → ts ++ t ∷ [] ≡ ts ++ told_if b t
+if_so ts b t e = ap (λ c. ts ++ told_if c t) (sym e)
 
-or_last : (b c : Bool) → c ≡ true → (b || c) ≡ true
-or_last true c e = refl
-or_last false c e = e
-
-pub kept : (p : UserChange → Bool) (before after : List UserChange) → IsMore before after → list_any p before ≡ true → list_any p after ≡ true
-kept p before after more e = ap (list_any p) more.1 ∙ list_any-append p before more.0 ∙ or_kept (list_any p before) (list_any p more.0) e
-
-pub pushed : (p : UserChange → Bool) (before : List UserChange) (t : UserChange) → p t ≡ true → list_any p (before ++ t ∷ []) ≡ true
-pushed p before t e = list_any-append p before (t ∷ []) ∙ or_last (list_any p before) (p t || false) (or_kept (p t) false e)
-
-pub gone_kept : (is : PolicyDoc) (us : List User) (before after : List UserChange) → IsMore before after → AreGone is us before → AreGone is us after
-gone_kept is us before after more = All-weaker (λ u. user_named is u.user ≡ None → list_any (says_gone u) before ≡ true) (λ u. user_named is u.user ≡ None → list_any (says_gone u) after ≡ true)
-    (λ u h none. kept (says_gone u) before after more (h none)) us
-
-pub coming_kept : (was : PolicyDoc) (us : List User) (before after : List UserChange) → IsMore before after → AreComing was us before → AreComing was us after
-coming_kept was us before after more = All-weaker (λ u. user_named was u.user ≡ None → list_any (says_new u) before ≡ true) (λ u. user_named was u.user ≡ None → list_any (says_new u) after ≡ true)
-    (λ u h none. kept (says_new u) before after more (h none)) us
+pub if_not : (ts : List Told) (b : Bool) (t : Told) → b ≡ false → ts ≡ ts ++ told_if b t
+if_not ts b t e = sym (append-nil ts) ∙ ap (λ c. ts ++ told_if c t) (sym e)
 
 -- one more user is looked at
-pub gone_more : (is : PolicyDoc) (us : List User) (u : User) (before after : List UserChange) → IsMore before after → AreGone is us before → (user_named is u.user ≡ None → list_any (says_gone u) after ≡ true) →
-    AreGone is (us ++ u ∷ []) after
-gone_more is us u before after more some one =
-    All-push (λ (v : User). user_named is v.user ≡ None → list_any (says_gone v) after ≡ true) us u (gone_kept is us before after more some) one
-
-pub coming_more : (was : PolicyDoc) (us : List User) (u : User) (before after : List UserChange) → IsMore before after → AreComing was us before → (user_named was u.user ≡ None → list_any (says_new u) after ≡ true) →
-    AreComing was (us ++ u ∷ []) after
-coming_more was us u before after more some one =
-    All-push (λ (v : User). user_named was v.user ≡ None → list_any (says_new v) after ≡ true) us u (coming_kept was us before after more some) one
-
--- a line with a user's account and name is of that user
-pub of_same : (u : User) (account name : List ℕ) → account ≡ u.account → name ≡ u.user → is_of u account name ≡ true
-of_same u account name e f =
-    and_from (bytes_eq account u.account) (bytes_eq name u.user) ((bytes_eq-Decides account u.account).1 e) ((bytes_eq-Decides name u.user).1 f)
-
-pub told_gone : (u : User) (t : UserChange) → t.what ≡ Gone → t.account.now ≡ u.account → t.user.now ≡ u.user → says_gone u t ≡ true
-told_gone u t what account user = and_from (is_gone t.what) (is_of u t.account.now t.user.now) (ap is_gone what) (of_same u t.account.now t.user.now account user)
-
-pub told_new : (u : User) (t : UserChange) → t.what ≡ New → t.account.now ≡ u.account → t.user.now ≡ u.user → says_new u t ≡ true
-told_new u t what account user = and_from (is_new t.what) (is_of u t.account.now t.user.now) (ap is_new what) (of_same u t.account.now t.user.now account user)
-
-pub more_same : (told : List UserChange) → IsMore told told
-more_same told = ([], sym (append-nil told))
-
-pub more_after : (a b c : List UserChange) → IsMore a b → IsMore b c → IsMore a c
-more_after a b c one other = (one.0 ++ other.0, other.1 ∙ ap (λ (l : List UserChange). l ++ other.0) one.1 ∙ append_assoc a one.0 other.0)
+pub all_more : (f : User → List Told) (before now after : List Told) (us : List User) (u : User) → now ≡ before ++ flat_map f us → after ≡ now ++ f u → after ≡ before ++ flat_map f (us ++ u ∷ [])
+all_more f before now after us u so_far one =
+    one ∙ ap (λ (l : List Told). l ++ f u) so_far ∙ append_assoc before (flat_map f us) (f u)
+    ∙ ap (λ (l : List Told). before ++ l) (ap (λ (l : List Told). flat_map f us ++ l) (sym (append-nil (f u))) ∙ sym (flat_map-append f us (u ∷ [])))
 
 -- in another order as much is told
-pub users_told : (old new : PolicyDoc) (olds news : List User) (told sorted : List UserChange) → IsPermutation (users_of old) olds → IsPermutation (users_of new) news → IsPermutation told sorted →
-    AreGone new olds told → AreComing old news told → AreUsersTold old new sorted
-users_told old new olds news told sorted of_old of_new moved gone coming = record {
-  come = λ u among none.
-      sym (list_any-IsPermutation (says_new u) told sorted moved)
-      ∙ All-contains (λ u. user_named old u.user ≡ None → list_any (says_new u) told ≡ true) news u coming (Contains-permutation (users_of new) news u of_new among) none;
-  go = λ u among none.
-      sym (list_any-IsPermutation (says_gone u) told sorted moved)
-      ∙ All-contains (λ u. user_named new u.user ≡ None → list_any (says_gone u) told ≡ true) olds u gone (Contains-permutation (users_of old) olds u of_old among) none;
-}
+pub users_told : (old new : PolicyDoc) (olds news : List User) (told sorted : List UserChange) → IsPermutation (users_of old) olds → IsPermutation (users_of new) news →
+    map told_of told ≡ all_old new olds ++ all_new old news → IsPermutation told sorted → AreUsersTold old new sorted
+users_told old new olds news told sorted of_old of_new all moved =
+    let parts = IsPermutation-append (all_old new (users_of old)) (all_old new olds) (all_new old (users_of new)) (all_new old news) (flat_moved _ (users_of old) olds of_old) (flat_moved _ (users_of new) news of_new) in
+    IsPermutation-trans _ (map told_of told) _ (subst (IsPermutation (all_old new (users_of old) ++ all_new old (users_of new))) (sym all) parts) (IsPermutation-map told_of told sorted moved)

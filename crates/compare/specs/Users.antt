@@ -1,6 +1,7 @@
 -- What is told of the users of two policies (docs/POLICY.md, "Comparing two policies").
-use Rattle.std.specs.Prelude.{◌≡◌, ◌++◌, ◌∷◌, ◌&&◌, [], All, Bool, true, false, ℕ, List, map, nat_eq, Option, Some, None, is_some}
-use Rattle.std.specs.List.{list_any, Contains}
+use Rattle.std.specs.Prelude.{◌≡◌, ◌++◌, ◌∷◌, ◌&&◌, [], All, Bool, true, false, not, ℕ, List, map, nat_eq, Option, Some, None, is_some}
+use Rattle.std.specs.List.{flat_map, list_any, Contains}
+use Rattle.std.specs.Str.{bytes_eq}
 use Rattle.std.specs.List.Sorted.{IsPermutation}
 use Rattle.std.specs.Cmp.Lexicographic.{pointwise}
 use Rattle.subjects.specs.Subject.{tokens_of}
@@ -22,30 +23,58 @@ use Rattle.compare.specs.declared.change.UserChange.{UserChange}
 abbrev pub is_of : User → List ℕ → List ℕ → Bool
 is_of u account name = pointwise nat_eq account u.account && pointwise nat_eq name u.user
 
--- ---- users that come and go
+-- ---- users that come, go, move, or have another password
 
-abbrev pub is_new : Becoming → Bool
-is_new New = true
-is_new Gone = false
-is_new Password = false
-is_new (MovedTo account) = false
+-- what becomes of a user
+pub data Fate : Type 0 where
+  comes : Fate
+  goes : Fate
+  -- to this account
+  moves : List ℕ → Fate
+  -- it has another password
+  renewed : Fate
 
-abbrev pub is_gone : Becoming → Bool
-is_gone New = false
-is_gone Gone = true
-is_gone Password = false
-is_gone (MovedTo account) = false
+abbrev pub fate_of : Becoming → Fate
+fate_of New = comes
+fate_of Gone = goes
+fate_of Password = renewed
+fate_of (MovedTo account) = moves account.now
 
-abbrev pub says_new : User → UserChange → Bool
-says_new u told = is_new told.what && is_of u told.account.now told.user.now
+-- an account, a name, and what becomes of that user
+abbrev pub Told : Type 0
+Told = List ℕ × List ℕ × Fate
 
-abbrev pub says_gone : User → UserChange → Bool
-says_gone u told = is_gone told.what && is_of u told.account.now told.user.now
+abbrev pub told_of : UserChange → Told
+told_of t = (t.account.now, t.user.now, fate_of t.what)
 
--- A user that the new policy alone has is told as one that comes, and one that the old policy alone has as one that goes.
-pub record AreUsersTold (old new : PolicyDoc) (told : List UserChange) : Type 0 where
-  pub come : (u : User) → Contains (users_of new) u → user_named old u.user ≡ None → list_any (says_new u) told ≡ true
-  pub go : (u : User) → Contains (users_of old) u → user_named new u.user ≡ None → list_any (says_gone u) told ≡ true
+abbrev pub told_if : Bool → Told → List Told
+told_if true t = t ∷ []
+told_if false t = []
+
+-- what is told of a user of both policies
+abbrev pub told_again : User → User → List Told
+told_again u v =
+    told_if (not (bytes_eq u.account v.account)) (u.account, u.user, moves v.account) ++ told_if (not (bytes_eq u.password v.password)) (v.account, v.user, renewed)
+
+-- of a user of the old policy, by whom the new one has under its name
+abbrev pub told_old : User → Option User → List Told
+told_old u None = (u.account, u.user, goes) ∷ []
+told_old u (Some v) = told_again u v
+
+-- of a user of the new policy, by whom the old one had under its name
+abbrev pub told_new : User → Option User → List Told
+told_new u None = (u.account, u.user, comes) ∷ []
+told_new u (Some v) = []
+
+abbrev pub all_old : PolicyDoc → List User → List Told
+all_old new us = flat_map (λ u. told_old u (user_named new u.user)) us
+
+abbrev pub all_new : PolicyDoc → List User → List Told
+all_new old us = flat_map (λ u. told_new u (user_named old u.user)) us
+
+-- What becomes of the users of both policies is told, of each once, and nothing else.
+abbrev pub AreUsersTold : PolicyDoc → PolicyDoc → List UserChange → Type 0
+AreUsersTold old new told = IsPermutation (all_old new (users_of old) ++ all_new old (users_of new)) (map told_of told)
 
 -- ---- what those that stay gain and lose
 
@@ -99,7 +128,7 @@ pub record AreListsTold (old new : PolicyDoc) (lines : List ListChange) : Type 0
   pub each : AreLinesOfAll old users lines
   pub alike : (was is : User) → Contains (users_of new) is → user_named old is.user ≡ Some was → list_any (is_about is) lines ≡ false → AreJudgedAlike was.rules is.rules
 
--- What two policies change of their users is told, and of no user is it left out.
+-- What two policies change of their users is told: of no user is it left out, and of none more is told.
 pub record AreToldOfUsers (old new : PolicyDoc) (changes : Changes) : Type 0 where
   pub users : AreUsersTold old new changes.users.items
   pub lists : AreListsTold old new changes.lists.items
@@ -114,15 +143,3 @@ AreAdded P before after = (own : List ListChange) × (after ≡ before ++ own) �
 pub record AreAsked (was is : Lists) (c : MessageChange) : Type 0 where
   pub old : is_some (verdict_if c.kind was (tokens_of c.asked.subject.items) c.asked.queue) ≡ true
   pub new : is_some (verdict_if c.kind is (tokens_of c.asked.subject.items) c.asked.queue) ≡ true
-
--- more is told
-abbrev pub IsMore : List UserChange → List UserChange → Type 0
-IsMore before after = (more : List UserChange) × (after ≡ before ++ more)
-
--- each of some users that the new policy hasn't is told as one that goes
-abbrev pub AreGone : PolicyDoc → List User → List UserChange → Type 0
-AreGone new us told = All (λ u. user_named new u.user ≡ None → list_any (says_gone u) told ≡ true) us
-
--- each that the old policy hasn't is told as one that comes
-abbrev pub AreComing : PolicyDoc → List User → List UserChange → Type 0
-AreComing old us told = All (λ u. user_named old u.user ≡ None → list_any (says_new u) told ≡ true) us

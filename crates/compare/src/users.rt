@@ -1,10 +1,9 @@
 //! Users that come, go, move, or change their password.
-ghost use Rattle.std.specs.Prelude.{◌≡◌, IfOk, OnOk, None, map, true};
-ghost use Rattle.std.specs.List.{list_any};
+ghost use Rattle.std.specs.Prelude.{◌≡◌, ◌++◌, IfOk, OnOk, map};
 ghost use Rattle.policy_doc.specs.declared.document.PolicyDoc.{PolicyDoc};
 ghost use Rattle.policy_ready.specs.Users.{user_named};
 ghost use Rattle.compare.specs.Members.{user_of, AreMembers};
-ghost use Rattle.compare.specs.Users.{says_gone, says_new, AreComing, AreGone, AreUsersTold, IsMore};
+ghost use Rattle.compare.specs.Users.{all_new, all_old, fate_of, told_again, told_if, told_new, told_of, told_old, AreUsersTold};
 
 use crate::members::{Member, Members};
 use crate::{Becoming, UserChange};
@@ -34,7 +33,7 @@ fn add_olds<'a>(
     members: &[Member<'a>],
     new: &Members<'a>,
 ) -> Result<(), NoMemory>
-    ensures { OnOk result ((is : PolicyDoc) → AreMembers is new.now → AreGone is (map user_of members.now) told.new.items) }
+    ensures { OnOk result ((is : PolicyDoc) → AreMembers is new.now → map told_of told.new.items ≡ map told_of told.old.items ++ all_old is (map user_of members.now)) }
 {
     for member in members {
         add_old(told, member, new)?;
@@ -48,8 +47,7 @@ fn add_news<'a>(
     members: &[Member<'a>],
     old: &Members<'a>,
 ) -> Result<(), NoMemory>
-    ensures more { OnOk result (IsMore told.old.items told.new.items) }
-    ensures come { OnOk result ((was : PolicyDoc) → AreMembers was old.now → AreComing was (map user_of members.now) told.new.items) }
+    ensures { OnOk result ((was : PolicyDoc) → AreMembers was old.now → map told_of told.new.items ≡ map told_of told.old.items ++ all_new was (map user_of members.now)) }
 {
     for member in members {
         add_new(told, member, old)?;
@@ -63,8 +61,7 @@ fn add_old<'a>(
     member: &Member<'a>,
     new: &Members<'a>,
 ) -> Result<(), NoMemory>
-    ensures more { OnOk result (IsMore told.old.items told.new.items) }
-    ensures gone { OnOk result ((is : PolicyDoc) → AreMembers is new.now → user_named is (user_of member.now).user ≡ None → list_any (says_gone (user_of member.now)) told.new.items ≡ true) }
+    ensures { OnOk result ((is : PolicyDoc) → AreMembers is new.now → map told_of told.new.items ≡ map told_of told.old.items ++ told_old (user_of member.now) (user_named is (user_of member.now).user)) }
 {
     let name = member.user.user.as_slice();
     match new.named(name) {
@@ -85,8 +82,7 @@ fn add_new<'a>(
     member: &Member<'a>,
     old: &Members<'a>,
 ) -> Result<(), NoMemory>
-    ensures more { OnOk result (IsMore told.old.items told.new.items) }
-    ensures come { OnOk result ((was : PolicyDoc) → AreMembers was old.now → user_named was (user_of member.now).user ≡ None → list_any (says_new (user_of member.now)) told.new.items ≡ true) }
+    ensures { OnOk result ((was : PolicyDoc) → AreMembers was old.now → map told_of told.new.items ≡ map told_of told.old.items ++ told_new (user_of member.now) (user_named was (user_of member.now).user)) }
 {
     let name = member.user.user.as_slice();
     match old.named(name) {
@@ -104,7 +100,7 @@ fn add_again<'a>(
     old: &Member<'a>,
     new: &Member<'a>,
 ) -> Result<(), NoMemory>
-    ensures { OnOk result (IsMore told.old.items told.new.items) }
+    ensures { OnOk result (map told_of told.new.items ≡ map told_of told.old.items ++ told_again (user_of old.now) (user_of new.now)) }
 {
     let has_moved = old.user.account != new.user.account;
     let to = Becoming::MovedTo(new.user.account.as_slice());
@@ -120,7 +116,7 @@ fn add_if<'a>(
     is_so: bool,
     change: UserChange<'a>,
 ) -> Result<(), NoMemory>
-    ensures { OnOk result (IsMore told.old.items told.new.items) }
+    ensures { OnOk result (map told_of told.new.items ≡ map told_of told.old.items ++ told_if is_so (told_of change.entry)) }
 {
     if is_so {
         told.push(change)?;
@@ -130,9 +126,7 @@ fn add_if<'a>(
 }
 
 fn told_as<'a>(member: &Member<'a>, what: Becoming<'a>) -> UserChange<'a>
-    ensures what { result.what ≡ what.entry }
-    ensures account { result.account.now ≡ (user_of member.now).account }
-    ensures user { result.user.now ≡ (user_of member.now).user }
+    ensures { told_of result ≡ ((user_of member.now).account, (user_of member.now).user, fate_of what.entry) }
 {
     UserChange {
         account: member.user.account.as_slice(),

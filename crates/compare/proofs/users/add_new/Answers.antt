@@ -1,25 +1,23 @@
--- who wasn't in the old policy is told to come
-use Rattle.std.proofs.Common.{◌∙◌, ◌∷◌, [], ap, sym}
-use Rattle.std.specs.List.{list_any}
+-- who wasn't in the old policy comes
+use Rattle.std.proofs.Common.{◌≡◌, ◌∙◌, ◌++◌, ◌∷◌, [], Option, None, ap, append-nil, map, sym}
+use Rattle.std.proofs.lemmas.List.{map_push}
 use Rattle.policy_ready.specs.Users.{user_named}
-use Rattle.compare.proofs.Lines.{more_same, pushed, told_new}
+use Rattle.policy_ready.specs.declared.ready.User.{User}
 use Rattle.compare.specs.Members.{user_of}
-use Rattle.compare.specs.Users.{says_new}
+use Rattle.compare.specs.Users.{told_new, told_of, Told}
 use Rattle.compare.proofs.users.add_new.Goals as goal
 
-pub returns-in_ok-push-in-None-clause-more : goal.returns-in_ok-push-in-None-clause-more
-returns-in_ok-push-in-None-clause-more c = (c.told_as.result ∷ [], c.in_ok-push-in-None.ensures.items)
-
-pub returns-in_ok-push-in-None-clause-come : goal.returns-in_ok-push-in-None-clause-come
-returns-in_ok-push-in-None-clause-come c = λ was of_was none.
+pub returns-in_ok-push-in-None : goal.returns-in_ok-push-in-None
+returns-in_ok-push-in-None c = λ was are.
     let u = user_of c.args.member.now in
-    ap (list_any (says_new u)) c.in_ok-push-in-None.ensures.items
-    ∙ pushed (says_new u) c.args.told.now.items c.told_as.result (told_new u c.told_as.result c.told_as.ensures.what c.told_as.ensures.account c.told_as.ensures.user)
+    let before = c.args.told.now.items in
+    let none : user_named was u.user ≡ None = ap (user_named was) (sym c.as_slice-name.ensures) ∙ (c.in-None.ensures was are).0 in
+    ap (map told_of) c.in_ok-push-in-None.ensures.items ∙ map_push told_of before c.told_as.result
+    ∙ ap (λ (t : Told). map told_of before ++ t ∷ []) c.told_as.ensures
+    ∙ ap (λ (o : Option User). map told_of before ++ told_new u o) (sym none)
 
-pub returns-in-Some-clause-more : goal.returns-in-Some-clause-more
-returns-in-Some-clause-more c = more_same c.args.told.now.items
-
-pub returns-in-Some-clause-come : goal.returns-in-Some-clause-come
-returns-in-Some-clause-come c = λ was of_was none.
-    let bad = sym none ∙ ap (user_named was) (sym c.as_slice-name.ensures) ∙ (c.in-Some.ensures was of_was).0 in
-    cc
+pub returns-in-Some : goal.returns-in-Some
+returns-in-Some c = λ was are.
+    let u = user_of c.args.member.now in
+    let before = map told_of c.args.told.now.items in
+    sym (append-nil before) ∙ ap (λ (o : Option User). before ++ told_new u o) (sym (ap (user_named was) (sym c.as_slice-name.ensures) ∙ (c.in-Some.ensures was are).0))

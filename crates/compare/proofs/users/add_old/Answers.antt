@@ -1,25 +1,24 @@
--- who isn't in the new policy is told to go
-use Rattle.std.proofs.Common.{◌≡◌, ◌∙◌, ◌∷◌, [], Some, None, ap, sym}
-use Rattle.std.specs.List.{list_any}
+-- who isn't in the new policy goes
+use Rattle.std.proofs.Common.{◌≡◌, ◌∙◌, ◌++◌, ◌∷◌, [], Option, Some, None, ap, map, sym}
+use Rattle.std.proofs.lemmas.List.{map_push}
 use Rattle.policy_ready.specs.Users.{user_named}
-use Rattle.compare.proofs.Lines.{pushed, told_gone}
+use Rattle.policy_ready.specs.declared.ready.User.{User}
 use Rattle.compare.specs.Members.{user_of}
-use Rattle.compare.specs.Users.{says_gone}
+use Rattle.compare.specs.Users.{told_of, told_old, Told}
 use Rattle.compare.proofs.users.add_old.Goals as goal
 
-pub returns-in_ok-push-in-None-clause-more : goal.returns-in_ok-push-in-None-clause-more
-returns-in_ok-push-in-None-clause-more c = (c.told_as.result ∷ [], c.in_ok-push-in-None.ensures.items)
-
-pub returns-in_ok-push-in-None-clause-gone : goal.returns-in_ok-push-in-None-clause-gone
-returns-in_ok-push-in-None-clause-gone c = λ is of_is none.
+pub returns-in_ok-push-in-None : goal.returns-in_ok-push-in-None
+returns-in_ok-push-in-None c = λ is are.
     let u = user_of c.args.member.now in
-    ap (list_any (says_gone u)) c.in_ok-push-in-None.ensures.items
-    ∙ pushed (says_gone u) c.args.told.now.items c.told_as.result (told_gone u c.told_as.result c.told_as.ensures.what c.told_as.ensures.account c.told_as.ensures.user)
+    let before = c.args.told.now.items in
+    let none : user_named is u.user ≡ None = ap (user_named is) (sym c.as_slice-name.ensures) ∙ (c.in-None.ensures is are).0 in
+    ap (map told_of) c.in_ok-push-in-None.ensures.items ∙ map_push told_of before c.told_as.result
+    ∙ ap (λ (t : Told). map told_of before ++ t ∷ []) c.told_as.ensures
+    ∙ ap (λ (o : Option User). map told_of before ++ told_old u o) (sym none)
 
-pub returns-in_ok-add_again-in-Some-clause-more : goal.returns-in_ok-add_again-in-Some-clause-more
-returns-in_ok-add_again-in-Some-clause-more c = c.in_ok-add_again-in-Some.ensures
-
-pub returns-in_ok-add_again-in-Some-clause-gone : goal.returns-in_ok-add_again-in-Some-clause-gone
-returns-in_ok-add_again-in-Some-clause-gone c = λ is of_is none.
-    let bad : None ≡ Some (user_of c.in-Some.again) = sym none ∙ ap (user_named is) (sym c.as_slice-name.ensures) ∙ (c.in-Some.ensures is of_is).0 in
-    cc
+pub returns-in_ok-add_again-in-Some : goal.returns-in_ok-add_again-in-Some
+returns-in_ok-add_again-in-Some c = λ is are.
+    let u = user_of c.args.member.now in
+    let before = map told_of c.args.told.now.items in
+    let some : user_named is u.user ≡ Some (user_of c.in-Some.again) = ap (user_named is) (sym c.as_slice-name.ensures) ∙ (c.in-Some.ensures is are).0 in
+    c.in_ok-add_again-in-Some.ensures ∙ ap (λ (o : Option User). before ++ told_old u o) (sym some)

@@ -1,9 +1,10 @@
--- those so far that go are told
-use Rattle.std.proofs.Common.{map, take}
+-- what is told so far is what becomes of the users so far
+use Rattle.std.proofs.Common.{◌≡◌, ◌++◌, map, take}
 use Rattle.policy_doc.specs.declared.document.PolicyDoc.{PolicyDoc}
 use Rattle.compare.specs.Members.{user_of, AreMembers}
-use Rattle.compare.specs.Users.{AreGone}
+use Rattle.compare.specs.Users.{all_old, told_of}
 use Rattle.compare.proofs.users.add_olds.Given as goal
 
 abbrev pub invariant-loop-member : goal.invariant-loop-member
-invariant-loop-member l = (is : PolicyDoc) → AreMembers is l.new → AreGone is (map user_of (take l.member-index l.members)) l.told.items
+invariant-loop-member l =
+    (is : PolicyDoc) → AreMembers is l.new → map told_of l.told.items ≡ map told_of l.initial.told.items ++ all_old is (map user_of (take l.member-index l.members))
