@@ -111,14 +111,22 @@ pub if_not : (ts : List Told) (b : Bool) (t : Told) → b ≡ false → ts ≡ t
 if_not ts b t e = sym (append-nil ts) ∙ ap (λ c. ts ++ told_if c t) (sym e)
 
 -- one more user is looked at
-pub all_more : (f : User → List Told) (before now after : List Told) (us : List User) (u : User) → now ≡ before ++ flat_map f us → after ≡ now ++ f u → after ≡ before ++ flat_map f (us ++ u ∷ [])
+pub all_more : (f : User → List Told) (before now after : List Told) (us : List User) (u : User) →
+    now ≡ before ++ flat_map f us → after ≡ now ++ f u → after ≡ before ++ flat_map f (us ++ u ∷ [])
 all_more f before now after us u so_far one =
+    let last : flat_map f us ++ f u ≡ flat_map f (us ++ u ∷ []) =
+    ap (λ (l : List Told). flat_map f us ++ l) (sym (append-nil (f u))) ∙ sym (flat_map-append f us (u ∷ [])) in
     one ∙ ap (λ (l : List Told). l ++ f u) so_far ∙ append_assoc before (flat_map f us) (f u)
-    ∙ ap (λ (l : List Told). before ++ l) (ap (λ (l : List Told). flat_map f us ++ l) (sym (append-nil (f u))) ∙ sym (flat_map-append f us (u ∷ [])))
+    ∙ ap (λ (l : List Told). before ++ l) last
 
 -- in another order as much is told
-pub users_told : (old new : PolicyDoc) (olds news : List User) (told sorted : List UserChange) → IsPermutation (users_of old) olds → IsPermutation (users_of new) news →
+pub users_told : (old new : PolicyDoc) (olds news : List User) (told sorted : List UserChange) →
+    IsPermutation (users_of old) olds → IsPermutation (users_of new) news →
     map told_of told ≡ all_old new olds ++ all_new old news → IsPermutation told sorted → AreUsersTold old new sorted
 users_told old new olds news told sorted of_old of_new all moved =
-    let parts = IsPermutation-append (all_old new (users_of old)) (all_old new olds) (all_new old (users_of new)) (all_new old news) (flat_moved _ (users_of old) olds of_old) (flat_moved _ (users_of new) news of_new) in
-    IsPermutation-trans _ (map told_of told) _ (subst (IsPermutation (all_old new (users_of old) ++ all_new old (users_of new))) (sym all) parts) (IsPermutation-map told_of told sorted moved)
+    let before : List Told = all_old new (users_of old) ++ all_new old (users_of new) in
+    let gone = flat_moved _ (users_of old) olds of_old in
+    let come = flat_moved _ (users_of new) news of_new in
+    let parts : IsPermutation before (all_old new olds ++ all_new old news) = IsPermutation-append _ _ _ _ gone come in
+    IsPermutation-trans _ (map told_of told) _ (subst (IsPermutation before) (sym all) parts)
+    (IsPermutation-map told_of told sorted moved)

@@ -54,7 +54,8 @@ told_if false t = []
 -- what is told of a user of both policies
 abbrev pub told_again : User → User → List Told
 told_again u v =
-    told_if (not (bytes_eq u.account v.account)) (u.account, u.user, moves v.account) ++ told_if (not (bytes_eq u.password v.password)) (v.account, v.user, renewed)
+    told_if (not (bytes_eq u.account v.account)) (u.account, u.user, moves v.account)
+    ++ told_if (not (bytes_eq u.password v.password)) (v.account, v.user, renewed)
 
 -- of a user of the old policy, by whom the new one has under its name
 abbrev pub told_old : User → Option User → List Told
@@ -66,11 +67,21 @@ abbrev pub told_new : User → Option User → List Told
 told_new u None = (u.account, u.user, comes) ∷ []
 told_new u (Some v) = []
 
+abbrev pub of_old : PolicyDoc → User → List Told
+of_old new u = told_old u (user_named new u.user)
+
+abbrev pub of_new : PolicyDoc → User → List Told
+of_new old u = told_new u (user_named old u.user)
+
 abbrev pub all_old : PolicyDoc → List User → List Told
-all_old new us = flat_map (λ u. told_old u (user_named new u.user)) us
+all_old new us = flat_map (of_old new) us
 
 abbrev pub all_new : PolicyDoc → List User → List Told
-all_new old us = flat_map (λ u. told_new u (user_named old u.user)) us
+all_new old us = flat_map (of_new old) us
+
+-- what is told was appended to what was told before
+abbrev pub AreAlsoTold : List Told → List UserChange → List UserChange → Type 0
+AreAlsoTold more before after = map told_of after ≡ map told_of before ++ more
 
 -- What becomes of the users of both policies is told, of each once, and nothing else.
 abbrev pub AreUsersTold : PolicyDoc → PolicyDoc → List UserChange → Type 0

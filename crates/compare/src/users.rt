@@ -1,9 +1,9 @@
 //! Users that come, go, move, or change their password.
-ghost use Rattle.std.specs.Prelude.{◌≡◌, ◌++◌, IfOk, OnOk, map};
+ghost use Rattle.std.specs.Prelude.{◌≡◌, IfOk, OnOk, map};
 ghost use Rattle.policy_doc.specs.declared.document.PolicyDoc.{PolicyDoc};
-ghost use Rattle.policy_ready.specs.Users.{user_named};
 ghost use Rattle.compare.specs.Members.{user_of, AreMembers};
-ghost use Rattle.compare.specs.Users.{all_new, all_old, fate_of, told_again, told_if, told_new, told_of, told_old, AreUsersTold};
+ghost use Rattle.compare.specs.Users.{all_new, all_old, fate_of, of_new, of_old, told_again, told_if, told_of};
+ghost use Rattle.compare.specs.Users.{AreAlsoTold, AreUsersTold};
 
 use crate::members::{Member, Members};
 use crate::{Becoming, UserChange};
@@ -33,7 +33,7 @@ fn add_olds<'a>(
     members: &[Member<'a>],
     new: &Members<'a>,
 ) -> Result<(), NoMemory>
-    ensures { OnOk result ((is : PolicyDoc) → AreMembers is new.now → map told_of told.new.items ≡ map told_of told.old.items ++ all_old is (map user_of members.now)) }
+    ensures { OnOk result ((is : PolicyDoc) → AreMembers is new.now → AreAlsoTold (all_old is (map user_of members.now)) told.old.items told.new.items) }
 {
     for member in members {
         add_old(told, member, new)?;
@@ -47,7 +47,7 @@ fn add_news<'a>(
     members: &[Member<'a>],
     old: &Members<'a>,
 ) -> Result<(), NoMemory>
-    ensures { OnOk result ((was : PolicyDoc) → AreMembers was old.now → map told_of told.new.items ≡ map told_of told.old.items ++ all_new was (map user_of members.now)) }
+    ensures { OnOk result ((was : PolicyDoc) → AreMembers was old.now → AreAlsoTold (all_new was (map user_of members.now)) told.old.items told.new.items) }
 {
     for member in members {
         add_new(told, member, old)?;
@@ -61,7 +61,7 @@ fn add_old<'a>(
     member: &Member<'a>,
     new: &Members<'a>,
 ) -> Result<(), NoMemory>
-    ensures { OnOk result ((is : PolicyDoc) → AreMembers is new.now → map told_of told.new.items ≡ map told_of told.old.items ++ told_old (user_of member.now) (user_named is (user_of member.now).user)) }
+    ensures { OnOk result ((is : PolicyDoc) → AreMembers is new.now → AreAlsoTold (of_old is (user_of member.now)) told.old.items told.new.items) }
 {
     let name = member.user.user.as_slice();
     match new.named(name) {
@@ -82,7 +82,7 @@ fn add_new<'a>(
     member: &Member<'a>,
     old: &Members<'a>,
 ) -> Result<(), NoMemory>
-    ensures { OnOk result ((was : PolicyDoc) → AreMembers was old.now → map told_of told.new.items ≡ map told_of told.old.items ++ told_new (user_of member.now) (user_named was (user_of member.now).user)) }
+    ensures { OnOk result ((was : PolicyDoc) → AreMembers was old.now → AreAlsoTold (of_new was (user_of member.now)) told.old.items told.new.items) }
 {
     let name = member.user.user.as_slice();
     match old.named(name) {
@@ -100,7 +100,7 @@ fn add_again<'a>(
     old: &Member<'a>,
     new: &Member<'a>,
 ) -> Result<(), NoMemory>
-    ensures { OnOk result (map told_of told.new.items ≡ map told_of told.old.items ++ told_again (user_of old.now) (user_of new.now)) }
+    ensures { OnOk result (AreAlsoTold (told_again (user_of old.now) (user_of new.now)) told.old.items told.new.items) }
 {
     let has_moved = old.user.account != new.user.account;
     let to = Becoming::MovedTo(new.user.account.as_slice());
@@ -116,7 +116,7 @@ fn add_if<'a>(
     is_so: bool,
     change: UserChange<'a>,
 ) -> Result<(), NoMemory>
-    ensures { OnOk result (map told_of told.new.items ≡ map told_of told.old.items ++ told_if is_so (told_of change.entry)) }
+    ensures { OnOk result (AreAlsoTold (told_if is_so (told_of change.entry)) told.old.items told.new.items) }
 {
     if is_so {
         told.push(change)?;
